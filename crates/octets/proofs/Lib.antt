@@ -1,0 +1,4 @@
+pub mod NumberLaws
+pub mod PartLaws
+pub mod GapLaws
+pub mod PortLaws
