@@ -1,15 +1,16 @@
 -- Laws of `specs/Parts.antt`: patches, zeros, equal parts. Assumes nothing.
 use mathlib.Core.Path.{_≡_, refl, sym, ap, ap₂, _∙_}
 use mathlib.Core.List.{List, [], _∷_, _++_, append-assoc, append-nil}
-use mathlib.Core.Bool.{Bool, true, false, _&&_, false≢true}
+use mathlib.Core.Bool.{Bool, true, false, _&&_, false≢true, and-true, and-assoc}
 use Prim.Native.Nat.{ℕ, zero, suc, _+_, _-_, _≤_, _<_}
 use native.Mathlib.Nat.{add-zero, not-suc-le-zero}
 use native.Mathlib.Numerals.{add-one, sub-one}
 use native.Mathlib.Omega.{arith}
 use lib.ListN.{length, take, drop, getD, set, length-append, length-drop, take-append-drop, List·getD-append, replicate-append-replicate, length-replicate}
 use lib.Seq.{take-set-le, drop-cons, append-snoc, length-take-le, take-at, drop-at, set-at, set-split, getD-append-add, take-add, drop-drop, sets, sets-eq, set-comm, getD-at}
-use borrow.Author.Tests.{eqb-true, eq-eqb}
-use lib.Dec.{eqb}
+use borrow.Author.Tests.{eqb-true, eq-eqb, ne-eqb}
+use lib.Bits.{bitOr, or-zero-l, or-add-and, and-le-r}
+use lib.Dec.{eqb, eqb·suc-zero}
 use Rattle.octets.specs.Parts.{patch, zeros, zeroRun, same}
 
 -- both of two tests hold where their `&&` does
@@ -65,10 +66,22 @@ pub zeros-append : (n m : ℕ) → zeros n ++ zeros m ≡ zeros (n + m)
 unfolding zeros
 zeros-append n m = replicate-append-replicate n m 0
 
-pub zeroRun-turn : (b : List ℕ) (p n : ℕ) → 0 < n → zeroRun b p n ≡ eqb (getD b p 0) 0 && zeroRun b (p + 1) (n - 1)
+run-snoc : (b : List ℕ) (p n : ℕ) → zeroRun b p (suc n) ≡ (zeroRun b p n && eqb (getD b (p + n) 0) 0)
 unfolding zeroRun
-zeroRun-turn b p zero h = absurd (not-suc-le-zero h)
-zeroRun-turn b p (suc n) h = rw sub-one
+run-snoc b p zero = rw (add-zero, and-true)
+run-snoc b p (suc n) =
+    let e : p + 1 + n ≡ p + suc n = omega arith in
+    let r : zeroRun b (p + 1) (suc n) ≡ (zeroRun b (p + 1) n && eqb (getD b (p + suc n) 0) 0) = rw e at (run-snoc b (p + 1) n) in
+    ap (λ (t : Bool). eqb (getD b p 0) 0 && t) r ∙ sym (and-assoc (eqb (getD b p 0) 0) (zeroRun b (p + 1) n) (eqb (getD b (p + suc n) 0) 0))
+
+-- one octet more at the end of a run
+pub zeroRun-snoc : (b : List ℕ) (p n : ℕ) → zeroRun b p (n + 1) ≡ (zeroRun b p n && eqb (getD b (p + n) 0) 0)
+zeroRun-snoc b p n = rw add-one (run-snoc b p n)
+
+-- the bits of two numbers joined are 0 where both numbers are
+pub or-zero : (x y : ℕ) → eqb (bitOr x y) 0 ≡ (eqb x 0 && eqb y 0)
+or-zero zero y = rw (or-zero-l y)
+or-zero (suc x) y = rw (eqb·suc-zero x) (ne-eqb (bitOr (suc x) y) 0 (λ e. omega (arith, e, or-add-and (suc x) y, and-le-r (suc x) y)))
 
 -- zeros that were found, and that are there
 pub zeroRun-is : (b : List ℕ) (p n : ℕ) → p + n ≤ length b → zeroRun b p n ≡ true → take n (drop p b) ≡ zeros n

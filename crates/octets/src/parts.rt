@@ -28,19 +28,18 @@ pub fn copy_in(s: &mut [u8], at: usize, src: &[u8])
     }
 }
 
-// Whether n octets from index at are all 0.
+// Whether n octets from index at are all 0. All of them are looked at, so that the loop has one way out and the compiler can widen it.
 pub fn all_zero(s: &[u8], at: usize, n: usize) -> bool
     requires { ⌜ at + n ≤ length (now s) ⌝ }
     ensures { λ r. ⌜ r ≡ zeroRun (now (s .entry)) at n ⌝ }
 {
+    let mut bits: u8 = 0;
     let mut i = 0;
     while i < n {
-        if s[at + i] != 0 {
-            return false;
-        }
+        bits |= s[at + i];
         i += 1;
     }
-    true
+    bits == 0
 }
 
 // Whether two slices hold the same octets.
