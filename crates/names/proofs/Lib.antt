@@ -1,0 +1,4 @@
+pub mod SubIdLaws
+pub mod OrderLaws
+pub mod SideLaws
+pub mod TableLaws
