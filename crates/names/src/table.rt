@@ -1,12 +1,19 @@
 // The object table: every object type that the bridge has, in ascending order.
 ghost use mathlib.Core.Path.{_≡_};
-ghost use Prim.Native.Nat.{_<_, _≤_};
+ghost use Prim.Native.Nat.{_+_, _<_, _≤_};
+ghost use lib.ListN.{length};
+ghost use Rattle.octets.specs.Parts.{patch};
+ghost use Rattle.names.specs.Index.{limit};
+ghost use Rattle.names.specs.Instances.{instanceName, nameSize};
 ghost use Rattle.names.specs.Codes.{syntaxOf, accessOf, shapeOf, decodedRow};
 ghost use Rattle.names.specs.Table.{root, prefixOf, objects, objectAt, placeUnder, placeOf, found};
 ghost use Rattle.names.specs.Order.{sideOf};
-ghost use Rattle.names.specs.SubIds.{subids};
+ghost use Rattle.names.specs.SubIds.{subids, nameOctets};
 use super::Shape;
+use super::index::index_len;
+use super::index::put_index;
 use super::order::Side;
+use super::order::put_subids;
 use super::order::stands;
 
 pub enum Syntax {
@@ -207,4 +214,27 @@ fn shape_of(code: u32) -> Shape
         STATIC => Shape::Static,
         _ => Shape::Scalar,
     }
+}
+
+// How many octets the names of an object type's instances have.
+pub fn name_size(o: ObjectType) -> usize
+    requires { ⌜ o .len ≤ 6 ⌝ }
+    ensures { λ r. ⌜ r ≡ nameSize o ⌝ }
+{
+    let shape = o.shape;
+    4 * (7 + o.len + index_len(shape))
+}
+
+// Puts the name of the instance with the key from index at on.
+pub fn put_name(s: &mut [u8], at: usize, o: ObjectType, key: u64)
+    requires { ⌜ (o .len ≤ 6) × (at + nameSize o ≤ length (now s)) × (key < limit (o .shape)) ⌝ }
+    ensures { λ _. ⌜ now (s .exit) ≡ patch (now (s .entry)) at (nameOctets (instanceName o key)) ⌝ }
+{
+    let root = ROOT;
+    let prefix = o.prefix;
+    let n = o.len;
+    let shape = o.shape;
+    put_subids(s, at, &root, 7);
+    put_subids(s, at + 28, &prefix, n);
+    put_index(s, at + 28 + 4 * n, shape, key);
 }
