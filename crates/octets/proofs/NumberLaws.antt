@@ -29,6 +29,11 @@ unfoldable pub putAt : List ℕ → ℕ → ℕ → ℕ → List ℕ
 putAt b p zero v = b
 putAt b p (suc w) v = putAt (set b (p + w) (v % 256)) p w (v / 256)
 
+-- a number of one octet is that octet
+pub beAt-one : (b : List ℕ) (p : ℕ) → beAt b p 1 ≡ getD b p 0
+unfolding beAt
+beAt-one b p = rw (add-zero p) (omega arith)
+
 -- a turn of `put`
 pub putAt-turn : (b : List ℕ) (p i v : ℕ) → 0 < i → putAt b p i v ≡ putAt (set b (p + (i - 1)) (v % 256)) p (i - 1) (v / 256)
 unfolding putAt
