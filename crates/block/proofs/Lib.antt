@@ -1,0 +1,16 @@
+pub mod LengthLaws
+pub mod RowLaws
+pub mod ReadLaws
+pub mod FindLaws
+pub mod AlterLaws
+pub mod MapLaws
+pub mod TableLaws
+pub mod ChangeLaws
+pub mod ShapeLaws
+pub mod ImageLaws
+pub mod ValidParts
+pub mod RoundLaws
+pub mod KeepLaws
+pub mod LegalLaws
+pub mod FreshLaws
+pub mod Theorems

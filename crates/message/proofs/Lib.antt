@@ -1,0 +1,10 @@
+pub mod FormLaws
+pub mod HeadLaws
+pub mod BindingLaws
+pub mod LoopLaws
+pub mod ReadLaws
+pub mod WalkLaws
+pub mod Vectors
+pub mod AnswerLaws
+pub mod ReadBack
+pub mod AnswerVectors
