@@ -9,6 +9,7 @@ pub mod ChangeLaws
 pub mod ShapeLaws
 pub mod ImageLaws
 pub mod ValidParts
+pub mod CellLaws
 pub mod RoundLaws
 pub mod KeepLaws
 pub mod LegalLaws

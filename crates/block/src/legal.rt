@@ -11,6 +11,8 @@ ghost use Rattle.block.specs.Cells.{cellsOf, liveCells};
 ghost use Rattle.block.specs.Image.{image, contentOf};
 ghost use Rattle.block.specs.Lookup.{Sized};
 ghost use Rattle.block.specs.Valid.{every, inRange, columnOk, cellsOk, portSet, nameOk, vlanOk, staticOk, rowsOk, partsOk, legal};
+use super::cells::cells_of;
+use super::cells::live_cells;
 use super::layout::AT_CELLS;
 use super::layout::AT_STATICS;
 use super::layout::AT_VLANS;
@@ -28,46 +30,12 @@ use super::reads::vlan_count;
 use super::reads::vlan_key;
 use super::rows::StaticRow;
 use super::rows::VlanRow;
-use names::Shape;
-use names::table::Access;
 use names::table::OBJECT_COUNT;
 use names::table::ObjectType;
 use names::table::object;
 use octets::parts::all_zero;
 use octets::ports::are_disjoint;
 use octets::ports::only_to;
-
-// How many cells an object type has.
-pub fn cells_of(o: ObjectType) -> usize
-    ensures { λ r. ⌜ r ≡ cellsOf o ⌝ }
-{
-    let access = o.access;
-    let shape = o.shape;
-    match access {
-        Access::ReadOnly => 0,
-        Access::ReadWrite => match shape {
-            Shape::Scalar => 1,
-            Shape::Port => 64,
-            Shape::PortPriority => 512,
-            Shape::Vlan => 0,
-            Shape::Static => 0,
-        },
-    }
-}
-
-// How many of them are of the ports 1 to n.
-pub fn live_cells(n: u32, shape: Shape) -> usize
-    requires { ⌜ n ≤ 64 ⌝ }
-    ensures { λ r. ⌜ r ≡ liveCells n shape ⌝ }
-{
-    match shape {
-        Shape::Scalar => 1,
-        Shape::Port => n as usize,
-        Shape::PortPriority => 8 * (n as usize),
-        Shape::Vlan => 0,
-        Shape::Static => 0,
-    }
-}
 
 // Whether m cells from cell k on are in a range.
 fn cells_within(block: &[u8], k: usize, m: usize, o: ObjectType) -> bool
