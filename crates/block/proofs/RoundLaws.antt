@@ -19,7 +19,7 @@ use Rattle.octets.proofs.PartLaws.{both, same-refl, same-eq, take-take-drop}
 use Rattle.names.specs.Table.{objects}
 use Rattle.names.specs.declared.Shape.the-variants.{Vlan, Static}
 use Rattle.names.proofs.OrderLaws.{is-false}
-use Rattle.block.specs.Layout.{blockSize, manyCells, mostRows, atPorts, atVlanCount, atStaticCount}
+use Rattle.block.specs.Layout.{blockSize, manyCells, mostRows, atVlanCount, atStaticCount}
 use Rattle.block.specs.Rows.{rowsAt}
 use Rattle.block.specs.Content.{Content, Shape}
 use Rattle.block.specs.Image.{fitTo, cellOctets, vlanFront, vlanSets, vlanOctets, staticOctets, whole, image, cellAt, vlanAt, staticAt, contentOf}

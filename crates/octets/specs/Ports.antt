@@ -1,7 +1,7 @@
 -- Port sets (paper 01, "Ports": the first octet is ports 1 to 8, highest bit lowest port). A set of up to w ports is a number below 2 ^ w, and
 -- port p is its digit of weight 2 ^ (w - p); the bridge has w = 64. Assumes nothing.
 use Prim.Native.Nat.{ℕ, zero, suc, _+_, _-_, _/_, _%_, _^_}
-use mathlib.Core.Bool.{Bool, true, false, cond, _&&_, Bool·beq}
+use mathlib.Core.Bool.{Bool, cond, _&&_, Bool·beq}
 use mathlib.Core.List.{List}
 use lib.Bits.{bitAnd}
 use lib.Dec.{eqb, leb}

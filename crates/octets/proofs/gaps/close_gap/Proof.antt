@@ -4,10 +4,6 @@ use Rattle.octets.proofs.GapLaws.{patch-lowered}
 use borrow.Author.Needs.{needs}
 use Rattle.octets.proofs.gaps.close_gap.Statement.{statement}
 use Rattle.octets.proofs.gaps.close_gap.Tie as tie
-use Rattle.octets.proofs.gaps.close_gap.Reads as reads
-use Rattle.octets.proofs.gaps.close_gap.Lts as lts
-use Rattle.octets.proofs.parts.clear.Reads as clear-reads
-use Rattle.octets.proofs.gaps.move_down.Reads as move-down-reads
 
 move-down-requires : tie.Need-move-down-requires
 move-down-requires c κs = search needs

@@ -1,7 +1,7 @@
 -- `octets::gaps::move_down` meets its contract. The invariant: what goes below k is moved. Assumes nothing.
 use mathlib.Core.Path.{_≡_, refl, ap, _∙_, sym}
 use mathlib.Core.List.{List}
-use Prim.Native.Nat.{ℕ, suc, _+_, _≤_, _<_, _-_}
+use Prim.Native.Nat.{ℕ, _+_, _≤_, _-_}
 use native.Mathlib.Omega.{arith}
 use native.Mathlib.Numerals.{add-one}
 use lib.ListN.{length, set, getD, length-set}
@@ -9,8 +9,6 @@ use Rattle.octets.specs.Gaps.{lowered}
 use Rattle.octets.proofs.GapLaws.{lowered-none, lowered-turn}
 use Rattle.octets.proofs.gaps.move_down.Statement.{statement}
 use Rattle.octets.proofs.gaps.move_down.Tie as tie
-use Rattle.octets.proofs.gaps.move_down.Reads as reads
-use Rattle.octets.proofs.gaps.move_down.Lts as lts
 
 abbrev Inv-loop : tie.InvT-loop
 Inv-loop s₀ from to w k₀ s k = (from ≤ k) × (k + w ≤ to) × (length s ≡ length s₀) × (s ≡ lowered s₀ from k w)

@@ -1,15 +1,13 @@
 -- `octets::gaps::move_up` meets its contract. The invariant: what is from j on is moved. Assumes nothing.
 use mathlib.Core.Path.{_≡_, refl, ap, _∙_, sym}
 use mathlib.Core.List.{List}
-use Prim.Native.Nat.{ℕ, suc, _+_, _≤_, _<_, _-_}
+use Prim.Native.Nat.{ℕ, suc, _+_, _≤_, _-_}
 use native.Mathlib.Omega.{arith}
 use lib.ListN.{length, set, getD, length-set}
 use Rattle.octets.specs.Gaps.{raised}
 use Rattle.octets.proofs.GapLaws.{raised-none, raised-turn}
 use Rattle.octets.proofs.gaps.move_up.Statement.{statement}
 use Rattle.octets.proofs.gaps.move_up.Tie as tie
-use Rattle.octets.proofs.gaps.move_up.Reads as reads
-use Rattle.octets.proofs.gaps.move_up.Lts as lts
 
 abbrev Inv-loop : tie.InvT-loop
 Inv-loop s₀ from to w j₀ s j = (from ≤ j) × (j ≤ to) × (length s ≡ length s₀) × (s ≡ raised s₀ j to w)

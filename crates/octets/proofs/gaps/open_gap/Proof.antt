@@ -4,10 +4,6 @@ use Rattle.octets.proofs.GapLaws.{patch-raised}
 use borrow.Author.Needs.{needs}
 use Rattle.octets.proofs.gaps.open_gap.Statement.{statement}
 use Rattle.octets.proofs.gaps.open_gap.Tie as tie
-use Rattle.octets.proofs.gaps.open_gap.Reads as reads
-use Rattle.octets.proofs.gaps.open_gap.Lts as lts
-use Rattle.octets.proofs.parts.clear.Reads as clear-reads
-use Rattle.octets.proofs.gaps.move_up.Reads as move-up-reads
 
 move-up-requires : tie.Need-move-up-requires
 move-up-requires c κs = search needs

@@ -1,15 +1,12 @@
 -- `octets::numbers::be` meets its contract. The invariant: acc is the number of the i octets passed, and below 256 ^ i. Assumes nothing.
-use mathlib.Core.Path.{_≡_, refl, ap, _∙_, sym}
+use mathlib.Core.Path.{_≡_, refl, ap, _∙_}
 use Prim.Native.Nat.{ℕ, _+_, _*_, _^_, _≤_, _<_, _-_}
-use native.Mathlib.Nat.{le-antisymm}
 use native.Mathlib.Omega.{arith}
-use lib.ListN.{length, getD}
+use lib.ListN.{getD}
 use Rattle.octets.specs.Numbers.{beAt}
 use Rattle.octets.proofs.NumberLaws.{room, room8, beAt-more}
 use Rattle.octets.proofs.numbers.be.Statement.{statement}
 use Rattle.octets.proofs.numbers.be.Tie as tie
-use Rattle.octets.proofs.numbers.be.Reads as reads
-use Rattle.octets.proofs.numbers.be.Lts as lts
 
 abbrev Inv-loop : tie.InvT-loop
 Inv-loop s at w acc₀ i₀ acc i = (i ≤ w) × (acc ≡ beAt s at i) × (acc < 256 ^ i)

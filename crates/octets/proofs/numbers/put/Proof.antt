@@ -1,14 +1,11 @@
 -- `octets::numbers::put` meets its contract. The invariant: what is left to store makes of s what all the stores make of s at entry. Assumes nothing.
 use mathlib.Core.Path.{_≡_, refl, ap, _∙_, sym}
-use Prim.Native.Nat.{ℕ, _+_, _*_, _%_, _/_, _^_, _≤_, _<_, _-_}
-use native.Mathlib.Nat.{mod-lt}
+use Prim.Native.Nat.{ℕ, _≤_}
 use native.Mathlib.Omega.{arith}
-use lib.ListN.{length, getD, length-set}
+use lib.ListN.{length, length-set}
 use Rattle.octets.proofs.NumberLaws.{putAt, putAt-turn, putAt-patch}
 use Rattle.octets.proofs.numbers.put.Statement.{statement}
 use Rattle.octets.proofs.numbers.put.Tie as tie
-use Rattle.octets.proofs.numbers.put.Reads as reads
-use Rattle.octets.proofs.numbers.put.Lts as lts
 
 abbrev Inv-loop : tie.InvT-loop
 Inv-loop s₀ at w v i₀ x₀ s i x = (i ≤ w) × (length s ≡ length s₀) × (putAt s at i x ≡ putAt s₀ at w v)

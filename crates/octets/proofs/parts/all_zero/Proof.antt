@@ -5,7 +5,7 @@ use Prim.Native.Nat.{ℕ, _+_, _≤_, _<_, _-_}
 use native.Mathlib.Omega.{arith}
 use lib.Bits.{or-lt}
 use lib.Dec.{eqb}
-use lib.ListN.{length, getD}
+use lib.ListN.{getD}
 use Rattle.octets.specs.Parts.{zeroRun}
 use Rattle.octets.proofs.PartLaws.{zeroRun-snoc, or-zero}
 use Rattle.octets.proofs.parts.all_zero.Statement.{statement}

@@ -1,15 +1,13 @@
 -- `octets::parts::clear` meets its contract. The invariant: i zeros are patched in. Assumes nothing.
 use mathlib.Core.Path.{_≡_, refl, ap, _∙_, sym}
 use mathlib.Core.List.{List}
-use Prim.Native.Nat.{ℕ, _+_, _≤_, _<_, _-_}
+use Prim.Native.Nat.{ℕ, _+_, _≤_, _-_}
 use native.Mathlib.Omega.{arith}
 use lib.ListN.{length, set, length-set}
 use Rattle.octets.specs.Parts.{patch, zeros}
 use Rattle.octets.proofs.PartLaws.{patch-store, patch-none, zeros-snoc, length-zeros}
 use Rattle.octets.proofs.parts.clear.Statement.{statement}
 use Rattle.octets.proofs.parts.clear.Tie as tie
-use Rattle.octets.proofs.parts.clear.Reads as reads
-use Rattle.octets.proofs.parts.clear.Lts as lts
 
 abbrev Inv-loop : tie.InvT-loop
 Inv-loop s₀ at n i₀ s i = (i ≤ n) × (length s ≡ length s₀) × (s ≡ patch s₀ at (zeros i))

@@ -1,7 +1,7 @@
 -- `octets::parts::copy_in` meets its contract. The invariant: the first i octets of src are patched in. Assumes nothing.
 use mathlib.Core.Path.{_≡_, refl, ap, _∙_, sym}
-use mathlib.Core.List.{List, [], _∷_, _++_}
-use Prim.Native.Nat.{ℕ, _+_, _≤_, _<_, _-_}
+use mathlib.Core.List.{List}
+use Prim.Native.Nat.{ℕ, _+_, _≤_, _-_}
 use native.Mathlib.Omega.{arith}
 use native.Mathlib.Numerals.{add-one}
 use lib.ListN.{length, take, set, getD, length-set}
@@ -10,8 +10,6 @@ use Rattle.octets.specs.Parts.{patch}
 use Rattle.octets.proofs.PartLaws.{patch-store, patch-none}
 use Rattle.octets.proofs.parts.copy_in.Statement.{statement}
 use Rattle.octets.proofs.parts.copy_in.Tie as tie
-use Rattle.octets.proofs.parts.copy_in.Reads as reads
-use Rattle.octets.proofs.parts.copy_in.Lts as lts
 
 abbrev Inv-loop : tie.InvT-loop
 Inv-loop s₀ at src i₀ s i = (i ≤ length src) × (length s ≡ length s₀) × (s ≡ patch s₀ at (take i src))
