@@ -1,12 +1,12 @@
 // Whether a block is legal: the image of a valid content.
 ghost use mathlib.Core.Path.{_≡_};
 ghost use mathlib.Core.Bool.{_&&_};
-ghost use Prim.Native.Nat.{_+_, _-_, _*_, _≤_};
+ghost use Prim.Native.Nat.{_+_, _≤_};
 ghost use lib.ListN.{length, take, drop};
 ghost use Rattle.octets.specs.Parts.{same};
 ghost use Rattle.names.specs.Table.{objects};
 ghost use Rattle.names.specs.declared.Shape.{Shape};
-ghost use Rattle.block.specs.Layout.{blockSize, manyCells, mostRows};
+ghost use Rattle.block.specs.Layout.{blockSize, manyCells};
 ghost use Rattle.block.specs.Cells.{cellsOf, liveCells};
 ghost use Rattle.block.specs.Image.{image, contentOf};
 ghost use Rattle.block.specs.Lookup.{Sized};
@@ -44,14 +44,16 @@ fn cells_within(block: &[u8], k: usize, m: usize, o: ObjectType) -> bool
 {
     let low = o.low;
     let high = o.high;
-    let mut ok = true;
     let mut i = 0;
     while i < m {
         let v = cell(block, k + i);
-        ok &= (low <= v) & (v <= high);
+        let fits = (low <= v) & (v <= high);
+        if !fits {
+            return false;
+        }
         i += 1;
     }
-    ok
+    true
 }
 
 // Whether the cells of an object type, from cell k on, are as they must be.
@@ -65,7 +67,10 @@ fn column_ok(block: &[u8], n: u32, o: ObjectType, k: usize) -> bool
     }
     let shape = o.shape;
     let live = live_cells(n, shape);
-    cells_within(block, k, live, o) & all_zero(block, AT_CELLS + (k + live) * 4, (total - live) * 4)
+    if !cells_within(block, k, live, o) {
+        return false;
+    }
+    all_zero(block, AT_CELLS + (k + live) * 4, (total - live) * 4)
 }
 
 // Whether every object's cells are as they must be.
@@ -196,5 +201,14 @@ fn contents_ok(block: &[u8], n: u32) -> bool
     requires { ⌜ Sized (now block) × (1 ≤ n) × (n ≤ 64) ⌝ }
     ensures { λ r. ⌜ r ≡ partsOk n (now (block .entry)) ⌝ }
 {
-    unused_is_zero(block) & (cells_ok(block, n) & (vlans_ok(block, n) & statics_ok(block, n)))
+    if !unused_is_zero(block) {
+        return false;
+    }
+    if !cells_ok(block, n) {
+        return false;
+    }
+    if !vlans_ok(block, n) {
+        return false;
+    }
+    statics_ok(block, n)
 }
