@@ -1,0 +1,11 @@
+pub mod GetLaws
+pub mod RoomLaws
+pub mod WriteLaws
+pub mod JudgeLaws
+pub mod ContentOrder
+pub mod KeepValid
+pub mod OrderTheorem
+pub mod RespondLaws
+pub mod Theorems
+pub mod Cases
+pub mod Pairs
