@@ -71,6 +71,18 @@ not-end c i k e =
     let t : not (eqb (valueOf c i k .0) 0x32) ≡ true = every-at (λ g. not (eqb (g c k .0) 0x32)) (λ c k. (0x20, [])) values i refl refl in
     false≢true (ap not (sym (eq-eqb (valueOf c i k .0) 0x32 e)) ∙ t)
 
+-- get of an instance that the bridge can have: its content if it exists, else noSuchInstance
+pub get-at : (c : Content) (i k : ℕ) → i < 35 → canHave (c .ports) (objectAt i .shape) (index (objectAt i .shape) k) ≡ true
+    → get c (instanceName (objectAt i) k) ≡ cond (elem k (keysIn c (objectAt i .shape))) (valueOf c i k) (0x31, [])
+unfolding get
+get-at c i k l can =
+    let s : Shape = objectAt i .shape in
+    let x : List ℕ = instanceName (objectAt i) k in
+    let at : placeOf x ≡ some i = place-only x i l (prefix-append (typeName (objectAt i)) (index s k)) in
+    let rest : restOf i x ≡ index s k = drop-at (typeName (objectAt i)) (index s k) (7 + objectAt i .len) (length-typeName i) in
+    let key : keyIn (c .ports) s (index s k) ≡ some k = keyIn-index (c .ports) s k can in
+    ap (gotten c x) at ∙ ap (λ (l : List ℕ). existing c i (keyIn (c .ports) s l)) rest ∙ ap (existing c i) key
+
 module _ (c : Content) (ok : valid c ≡ true) where
   -- every key that exists is one that the bridge can have
   pub keys-can : (s : Shape) → All (λ k. canHave (c .ports) s (index s k) ≡ true) (keysIn c s)
@@ -105,15 +117,10 @@ module _ (c : Content) (ok : valid c ≡ true) where
 
     -- get of an instance that get-next gave is its content
     pub get-of-next : (i k : ℕ) → nextPlace (keysIn c) name ≡ some (i, k) → get c (instanceName (objectAt i) k) ≡ valueOf c i k
-    unfolding get
     get-of-next i k e =
         let p = place-in (keysIn c) name i k e in
         let s : Shape = objectAt i .shape in
-        let x : List ℕ = instanceName (objectAt i) k in
-        let at : placeOf x ≡ some i = place-only x i (p .0) (prefix-append (typeName (objectAt i)) (index s k)) in
-        let rest : restOf i x ≡ index s k = drop-at (typeName (objectAt i)) (index s k) (7 + objectAt i .len) (length-typeName i) in
-        let key : keyIn (c .ports) s (index s k) ≡ some k = keyIn-index (c .ports) s k (all-in _ (keysIn c s) (keys-can s) k (p .1)) in
-        ap (gotten c x) at ∙ ap (λ (l : List ℕ). existing c i (keyIn (c .ports) s l)) rest ∙ ap (existing c i) key
+        get-at c i k (p .0) (all-in _ (keysIn c s) (keys-can s) k (p .1))
         ∙ ap (λ (t : Bool). cond t (valueOf c i k) (0x31, [])) (elem-of k (keysIn c s) (p .1))
 
     -- where no instance is above the name, get-next gives the same name with endOfMibView

@@ -1,4 +1,4 @@
--- What a clean binding is: its name, its row and its value (`judged-placed`); and no cell and no row's status is written twice. Assumes nothing.
+-- What a clean binding is: its name, its row and its value (`judged-placed`); and no cell and no column of a row is written twice. Assumes nothing.
 use mathlib.Core.Path.{_≡_, refl, sym, ap, subst, _∙_}
 use mathlib.Core.Bool.{Bool, true, false, cond, not, _||_, _&&_, true≢false, false≢true}
 use mathlib.Core.Option.{Option, none, some, Option·none-ne-some, Option·some-injective}
@@ -83,14 +83,14 @@ by-bool true f g = f refl
 by-bool false f g = g refl
 
 -- the place of a column's object in the object table
-abbrev vlanPlace : Column VlanStatus VlanField → ℕ
+abbrev pub vlanPlace : Column VlanStatus VlanField → ℕ
 vlanPlace (status s) = 31
 vlanPlace (field (name xs)) = 27
 vlanPlace (field (egress s)) = 28
 vlanPlace (field (forbidden s)) = 29
 vlanPlace (field (untagged s)) = 30
 
-abbrev staticPlace : Column StaticStatus StaticField → ℕ
+abbrev pub staticPlace : Column StaticStatus StaticField → ℕ
 staticPlace (status s) = 17
 staticPlace (field f) = 16
 
@@ -111,7 +111,7 @@ StaticOk n (status drop) = Unit
 StaticOk n (field (allowed s)) = portSet n s ≡ true
 
 -- a write to the instance of key k of the object at place i, read from the content xs
-abbrev Meant : ℕ → ℕ → List ℕ → ℕ → Write → Type 0
+abbrev pub Meant : ℕ → ℕ → List ℕ → ℕ → Write → Type 0
 Meant n i xs k (cell j h v) = (j ≡ i) × (h ≡ k) × (0 < cellsOf (objectAt i)) × (inRange (objectAt i) v ≡ true)
 Meant n i xs k (vlan h c) = (i ≡ vlanPlace c) × (h ≡ k) × (Octets xs → VlanOk n c)
 Meant n i xs k (static h c) = (i ≡ staticPlace c) × (h ≡ k) × (Octets xs → StaticOk n c)
@@ -212,7 +212,7 @@ module _ (n : ℕ) (b : Asked) (few : n ≤ 64) (P : Judged → Type 0) (faulted
   finish-all i none (right w) s h = faulted 11 none
   finish-all i (some k) (right w) s h = h k refl (w k) (s k)
 
-  alone-all : P (alone n b)
+  pub alone-all : P (alone n b)
   unfolding alone
   alone-all = go (placeOf (b .name)) refl
     where
@@ -352,39 +352,33 @@ module _ (n : ℕ) (few : n ≤ 64) where
       p .called ∙ (λ z. instanceName (objectAt (e .0 z)) (e .1 z)) ∙ sym (q .called)
 
   module _ (b : Asked) where
-    vlan-named : (u : ℕ × Column VlanStatus VlanField) → vlanWrite (alone n b) ≡ some u → isStatus (u .1) ≡ true
-        → b .name ≡ instanceName (objectAt 31) (u .0)
+    vlan-named : (u : ℕ × Column VlanStatus VlanField) → vlanWrite (alone n b) ≡ some u → b .name ≡ instanceName (objectAt (vlanPlace (u .1))) (u .0)
     vlan-named u =
-        alone-all n b few (λ j. vlanWrite j ≡ some u → isStatus (u .1) ≡ true → b .name ≡ instanceName (objectAt 31) (u .0))
+        alone-all n b few (λ j. vlanWrite j ≡ some u → b .name ≡ instanceName (objectAt (vlanPlace (u .1))) (u .0))
         (λ f t e. absurd (Option·none-ne-some u e)) go
       where
         go : (i k : ℕ) (w : Write) → b .name ≡ instanceName (objectAt i) k → canHave n (objectAt i .shape) (index (objectAt i .shape) k) ≡ true
-            → Meant n i (b .content) k w → vlanWrite (clean (tableOf i, k) w) ≡ some u → isStatus (u .1) ≡ true
-            → b .name ≡ instanceName (objectAt 31) (u .0)
-        go i k (cell j h v) called can m e q = absurd (Option·none-ne-some u e)
-        go i k (vlan h (status s)) called can m e q =
-            let p : k ≡ u .0 = sym (m .1) ∙ ap (λ (y : ℕ × Column VlanStatus VlanField). y .0) (Option·some-injective (h, status s) u e) in
-            called ∙ (λ z. instanceName (objectAt (m .0 z)) (p z))
-        go i k (vlan h (field f)) called can m e q =
-            absurd (false≢true (ap (λ (y : ℕ × Column VlanStatus VlanField). isStatus (y .1)) (Option·some-injective (h, field f) u e) ∙ q))
-        go i k (static h c) called can m e q = absurd (Option·none-ne-some u e)
+            → Meant n i (b .content) k w → vlanWrite (clean (tableOf i, k) w) ≡ some u → b .name ≡ instanceName (objectAt (vlanPlace (u .1))) (u .0)
+        go i k (cell j h v) called can m e = absurd (Option·none-ne-some u e)
+        go i k (vlan h c) called can m e =
+            called ∙ (λ z. instanceName (objectAt (m .0 z)) (sym (m .1) z))
+            ∙ ap (λ (y : ℕ × Column VlanStatus VlanField). instanceName (objectAt (vlanPlace (y .1))) (y .0)) (Option·some-injective (h, c) u e)
+        go i k (static h c) called can m e = absurd (Option·none-ne-some u e)
 
-    static-named : (u : ℕ × Column StaticStatus StaticField) → staticWrite (alone n b) ≡ some u → isStatus (u .1) ≡ true
-        → b .name ≡ instanceName (objectAt 17) (u .0)
+    static-named : (u : ℕ × Column StaticStatus StaticField) → staticWrite (alone n b) ≡ some u
+        → b .name ≡ instanceName (objectAt (staticPlace (u .1))) (u .0)
     static-named u =
-        alone-all n b few (λ j. staticWrite j ≡ some u → isStatus (u .1) ≡ true → b .name ≡ instanceName (objectAt 17) (u .0))
+        alone-all n b few (λ j. staticWrite j ≡ some u → b .name ≡ instanceName (objectAt (staticPlace (u .1))) (u .0))
         (λ f t e. absurd (Option·none-ne-some u e)) go
       where
         go : (i k : ℕ) (w : Write) → b .name ≡ instanceName (objectAt i) k → canHave n (objectAt i .shape) (index (objectAt i .shape) k) ≡ true
-            → Meant n i (b .content) k w → staticWrite (clean (tableOf i, k) w) ≡ some u → isStatus (u .1) ≡ true
-            → b .name ≡ instanceName (objectAt 17) (u .0)
-        go i k (cell j h v) called can m e q = absurd (Option·none-ne-some u e)
-        go i k (vlan h c) called can m e q = absurd (Option·none-ne-some u e)
-        go i k (static h (status s)) called can m e q =
-            let p : k ≡ u .0 = sym (m .1) ∙ ap (λ (y : ℕ × Column StaticStatus StaticField). y .0) (Option·some-injective (h, status s) u e) in
-            called ∙ (λ z. instanceName (objectAt (m .0 z)) (p z))
-        go i k (static h (field f)) called can m e q =
-            absurd (false≢true (ap (λ (y : ℕ × Column StaticStatus StaticField). isStatus (y .1)) (Option·some-injective (h, field f) u e) ∙ q))
+            → Meant n i (b .content) k w → staticWrite (clean (tableOf i, k) w) ≡ some u
+            → b .name ≡ instanceName (objectAt (staticPlace (u .1))) (u .0)
+        go i k (cell j h v) called can m e = absurd (Option·none-ne-some u e)
+        go i k (vlan h c) called can m e = absurd (Option·none-ne-some u e)
+        go i k (static h c) called can m e =
+            called ∙ (λ z. instanceName (objectAt (m .0 z)) (sym (m .1) z))
+            ∙ ap (λ (y : ℕ × Column StaticStatus StaticField). instanceName (objectAt (staticPlace (y .1))) (y .0)) (Option·some-injective (h, c) u e)
 
     cell-named : (u : ℕ × ℕ) → cellWrite (alone n b) ≡ some u → true ≡ true → CellNamed n (b .name) (u .0)
     cell-named u =
@@ -399,13 +393,31 @@ module _ (n : ℕ) (few : n ≤ 64) where
         go i k (vlan h c) called can m e q = absurd (Option·none-ne-some u e)
         go i k (static h c) called can m e q = absurd (Option·none-ne-some u e)
 
-  -- the clean writes of a message write no row's status twice
+  -- the clean writes of a message write no column of a row twice: here columns whose object is at place p
+  pub judged-vlan : (p : ℕ) (test : Column VlanStatus VlanField → Bool) → ((c : Column VlanStatus VlanField) → test c ≡ true → vlanPlace c ≡ p)
+      → (bs : List Asked) → Once (keysOf (those test (gather vlanWrite (judged n bs))))
+  judged-vlan p test at bs =
+      once n vlanWrite test (λ x k. x ≡ instanceName (objectAt p) k) (λ f t. refl) (λ x y k p q. p ∙ sym q)
+      (λ b u e q. vlan-named b u e ∙ ap (λ (i : ℕ). instanceName (objectAt i) (u .0)) (at (u .1) q)) [] bs
+
+  pub judged-static : (p : ℕ) (test : Column StaticStatus StaticField → Bool) → ((c : Column StaticStatus StaticField) → test c ≡ true → staticPlace c ≡ p)
+      → (bs : List Asked) → Once (keysOf (those test (gather staticWrite (judged n bs))))
+  judged-static p test at bs =
+      once n staticWrite test (λ x k. x ≡ instanceName (objectAt p) k) (λ f t. refl) (λ x y k p q. p ∙ sym q)
+      (λ b u e q. static-named b u e ∙ ap (λ (i : ℕ). instanceName (objectAt i) (u .0)) (at (u .1) q)) [] bs
+
+  -- so no row's status
   pub judged-single : (bs : List Asked)
       → Once (keysOf (those isStatus (gather vlanWrite (judged n bs)))) × Once (keysOf (those isStatus (gather staticWrite (judged n bs))))
-  judged-single bs = (
-    once n vlanWrite isStatus (λ x k. x ≡ instanceName (objectAt 31) k) (λ f t. refl) (λ x y k p q. p ∙ sym q) vlan-named [] bs,
-    once n staticWrite isStatus (λ x k. x ≡ instanceName (objectAt 17) k) (λ f t. refl) (λ x y k p q. p ∙ sym q) static-named [] bs,
-  )
+  judged-single bs = (judged-vlan 31 isStatus vlan-at bs, judged-static 17 isStatus static-at bs)
+    where
+      vlan-at : (c : Column VlanStatus VlanField) → isStatus c ≡ true → vlanPlace c ≡ 31
+      vlan-at (status s) h = refl
+      vlan-at (field f) h = absurd (false≢true h)
+
+      static-at : (c : Column StaticStatus StaticField) → isStatus c ≡ true → staticPlace c ≡ 17
+      static-at (status s) h = refl
+      static-at (field f) h = absurd (false≢true h)
 
   -- nor a cell twice
   pub judged-cells : (bs : List Asked) → Once (keysOf (gather cellWrite (judged n bs)))

@@ -6,6 +6,9 @@ pub mod ContentOrder
 pub mod KeepValid
 pub mod OrderTheorem
 pub mod RespondLaws
+pub mod OnlyWriteLaws
+pub mod StoredLaws
 pub mod Theorems
 pub mod Cases
 pub mod Pairs
+pub mod OctetPairs

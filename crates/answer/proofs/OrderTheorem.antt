@@ -119,7 +119,7 @@ unfolding after apply
 ports-after c m = by-bool (eqb (verdict c m .status) 0) (λ e. rw e) (λ e. rw e)
 
 -- the answer to a readable set on the image of a valid content
-abbrev answered : List ℕ → List ℕ → Content → Outcome
+abbrev pub answered : List ℕ → List ℕ → Content → Outcome
 answered s room c =
     setAnswer s room (verdict c (namedBy (c .ports) s)) (after c (namedBy (c .ports) s))
 
@@ -131,7 +131,7 @@ unfolding respond
 set-respond s block room (refused r) e = absurd (false≢true e)
 set-respond s block room (message kind id status index bs) e = rw (eqb-true kind 3 e)
 
-answer-set : (c : Content) (s room : List ℕ) → valid c ≡ true → Readable s → mostOctets ≤ length room → answerOf (image c) s room ≡ answered s room c
+pub answer-set : (c : Content) (s room : List ℕ) → valid c ≡ true → Readable s → mostOctets ≤ length room → answerOf (image c) s room ≡ answered s room c
 unfolding answerOf
 answer-set c s room v r h =
     rw (le-ltb (length room) mostOctets h, le-ltb mostOctets (length s) (r .short), legal-image c v)
@@ -139,7 +139,7 @@ answer-set c s room v r h =
     ∙ ap (λ d. setAnswer s room (verdict d (namedBy (d .ports) s)) (after d (namedBy (d .ports) s))) (contentOf-image c v))
 
 -- what an answer's room holds up to the count
-taken : (xs room : List ℕ) → take (length xs) (patch room 0 xs) ≡ xs
+pub taken : (xs room : List ℕ) → take (length xs) (patch room 0 xs) ≡ xs
 unfolding patch
 taken xs room = take-at xs (drop (0 + length xs) room) (length xs) refl
 
