@@ -52,7 +52,7 @@ all-keys P Q [] h = tt
 all-keys P Q (e ∷ es) h = (h .0 .0, all-keys P Q es (h .1))
 
 -- a member of a list is found in it
-elem-of : (k : ℕ) (js : List ℕ) → List·Memᴰ k js → elem k js ≡ true
+pub elem-of : (k : ℕ) (js : List ℕ) → List·Memᴰ k js → elem k js ≡ true
 unfolding elem
 elem-of k [] m = absurd (List·Memᴰ·not-nil m)
 elem-of k (j ∷ js) m = ⊎-elim (λ e. rw (eq-eqb k j e)) (λ t. rw (elem-of k js t) (or-true (eqb k j))) (List·Memᴰ·cases-cons m)

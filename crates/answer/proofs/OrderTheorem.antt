@@ -1,16 +1,14 @@
 -- The order law of the answer call's definition (paper 01, demand 3), from the law over contents. Assumes nothing.
 use Prim.Native.Nat.{ℕ, _+_, _≤_}
 use native.Mathlib.Omega.{arith}
-use native.Mathlib.Decide.{decLt}
 use mathlib.Core.Path.{_≡_, refl, sym, ap, subst, _∙_}
-use mathlib.Core.Logic.{by-cases}
 use mathlib.Core.Bool.{true, true≢false, false≢true}
 use mathlib.Core.List.{List, [], _∷_, map}
 use lib.Dec.{eqb}
-use lib.ListN.{length, take, drop, length-take, List·getD-eq-default}
-use lib.Seq.{take-at, getD-take, getD-drop}
+use lib.ListN.{length, take, drop}
+use lib.Seq.{take-at}
 use borrow.Author.Tests.{eqb-true, le-ltb}
-use Rattle.octets.specs.Parts.{part, patch}
+use Rattle.octets.specs.Parts.{patch}
 use Rattle.octets.proofs.NumberLaws.{Octets}
 use Rattle.names.specs.declared.Shape.the-variants.{Vlan, Static}
 use Rattle.names.proofs.InstanceLaws.{All}
@@ -21,7 +19,7 @@ use Rattle.block.specs.Image.{image, contentOf}
 use Rattle.block.specs.Valid.{vlanOk, staticOk, valid}
 use Rattle.block.proofs.ValidParts.{Valid, valid-parts}
 use Rattle.block.proofs.KeepLaws.{HasCell, cell-other, rowsOk-rising}
-use Rattle.block.proofs.RoundLaws.{contentOf-image, legal-valid, legal-image}
+use Rattle.block.proofs.RoundLaws.{contentOf-image, legal-valid, legal-image, octets-part}
 use Rattle.message.specs.Request.{Reading, refused, message, readRequest}
 use Rattle.message.specs.Answer.{mostOctets, echoOctets}
 use Rattle.message.specs.declared.request.Binding.{Binding}
@@ -41,14 +39,6 @@ Keeps =
     (c : Content) (bs : List Asked) → valid c ≡ true → All (λ b. Octets (b .content)) bs → valid (after c (judged (c .ports) bs)) ≡ true
 
 -- the contents of a request's bindings are octets
-octets-part : (s : List ℕ) (p n : ℕ) → Octets s → Octets (part s p n)
-octets-part s p n o i =
-    by-cases (decLt i n)
-    (λ h. rw (getD-take n (drop p s) i 0 h, getD-drop) (o (p + i)))
-    (λ h.
-    let l : length (part s p n) ≤ i = rw length-take (omega arith) in
-    rw (List·getD-eq-default (part s p n) 0 l) (omega arith))
-
 pub asked-octets : (s : List ℕ) → Octets s → (x : Reading) → All (λ b. Octets (b .content)) (askedIn s x)
 asked-octets s o (refused r) = tt
 asked-octets s o (message kind id status index bs) = go bs

@@ -39,7 +39,7 @@ use Rattle.block.proofs.KeepLaws.{HasCell, cell-place, rowsOk-rising}
 use Rattle.block.proofs.RoundLaws.{contentOf-image, legal-valid}
 use Rattle.message.specs.Request.{readRequest}
 use Rattle.message.specs.Answer.{mostOctets}
-use Rattle.answer.specs.Values.{Value, integer, text, orElse, keysIn, cell as cellIn, values, valueOf}
+use Rattle.answer.specs.Values.{Value, integer, text, orElse, keysIn, cellAt, values, valueOf}
 use Rattle.answer.specs.Get.{elem, restOf, get}
 use Rattle.answer.specs.Writes.{Column, status, field, isStatus, onStatus, present, those, ordered, has, playRow}
 use Rattle.answer.specs.Judge.{Asked, VlanStatus, create, state, destroy, VlanField, name, egress, forbidden, untagged, StaticStatus, keep, drop, StaticField, allowed, Write, cell, vlan, static, Reading, wrong, right, tagOf, unless, valueAt, lengthOk, isWritable, reading, tableOf, Judged, bad, clean, finish, under, alone, among, judgedFrom, judged}
@@ -226,7 +226,7 @@ shownBy (o ∷ os) (f ∷ fs) c k = cond (ltb 0 (cellsOf o)) (f c k) (0x20, []) 
 
 abbrev cellsBy : ℕ → List ObjectType → Content → ℕ → List Value
 cellsBy j [] c k = []
-cellsBy j (o ∷ os) c k = cond (ltb 0 (cellsOf o)) (tagOf (o .syntax), beOctets 4 (cellIn j c k)) (0x20, []) ∷ cellsBy (suc j) os c k
+cellsBy j (o ∷ os) c k = cond (ltb 0 (cellsOf o)) (tagOf (o .syntax), beOctets 4 (cellAt j c k)) (0x20, []) ∷ cellsBy (suc j) os c k
 
 shows-cells : (c : Content) (k : ℕ) → shownBy objects values c k ≡ cellsBy 0 objects c k
 unfolding objects values
@@ -241,14 +241,15 @@ module _ (c : Content) (k : ℕ) where
   shown-at (o ∷ os) (f ∷ fs) (suc i) h = shown-at os fs i h
 
   cells-at : (j : ℕ) (os : List ObjectType) (i p : ℕ) → p ≡ j + i → ltb 0 (cellsOf (getD os i missing)) ≡ true
-      → getD (cellsBy j os c k) i (0x20, []) ≡ (tagOf (getD os i missing .syntax), beOctets 4 (cellIn p c k))
+      → getD (cellsBy j os c k) i (0x20, []) ≡ (tagOf (getD os i missing .syntax), beOctets 4 (cellAt p c k))
   cells-at j [] i p e h = absurd (false≢true h)
   cells-at j (o ∷ os) zero p e h =
       let d : p ≡ j = omega arith in
       rw (h, d)
   cells-at j (o ∷ os) (suc i) p e h = cells-at (suc j) os i p (omega arith) h
 
-  value-cell : (i : ℕ) → 0 < cellsOf (objectAt i) → valueOf c i k ≡ (tagOf (objectAt i .syntax), beOctets 4 (cellIn i c k))
+  -- an object that has cells: the number in the instance's cell, with the object's tag
+  pub value-cell : (i : ℕ) → 0 < cellsOf (objectAt i) → valueOf c i k ≡ (tagOf (objectAt i .syntax), beOctets 4 (cellAt i c k))
   value-cell i h =
       let t : ltb 0 (cellsOf (objectAt i)) ≡ true = lt-ltb 0 (cellsOf (objectAt i)) h in
       sym (shown-at objects values i t) ∙ ap (λ (l : List Value). getD l i (0x20, [])) (shows-cells c k) ∙ cells-at 0 objects i i (omega arith) t

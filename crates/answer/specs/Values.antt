@@ -53,8 +53,8 @@ abbrev pub ports : Content → ℕ → Value
 ports c s = text (portOctets (c .ports) s)
 
 -- the cell of an instance of the object at place i
-abbrev pub cell : ℕ → Content → ℕ → ℕ
-cell i c k = getD (c .cells) (cellOf i k) 0
+abbrev pub cellAt : ℕ → Content → ℕ → ℕ
+cellAt i c k = getD (c .cells) (cellOf i k) 0
 
 -- the value of each object type's instances, in the order of the object table
 unfoldable pub values : List (Content → ℕ → Value)
@@ -62,19 +62,19 @@ values =
     -- BridgeAddress, NumPorts, Type; Port, IfIndex
     (λ c k. text (c .address)) ∷ (λ c k. integer (c .ports)) ∷ (λ c k. integer 2) ∷ (λ c p. integer p) ∷ (λ c p. integer p)
     -- StpPriority, BridgeMaxAge, BridgeHelloTime, BridgeForwardDelay; StpPort, Priority, Enable, PathCost; AgingTime
-    ∷ (λ c k. integer (cell 5 c k)) ∷ (λ c k. integer (cell 6 c k)) ∷ (λ c k. integer (cell 7 c k)) ∷ (λ c k. integer (cell 8 c k))
-    ∷ (λ c p. integer p) ∷ (λ c p. integer (cell 10 c p)) ∷ (λ c p. integer (cell 11 c p)) ∷ (λ c p. integer (cell 12 c p)) ∷ (λ c k. integer (cell 13 c k))
+    ∷ (λ c k. integer (cellAt 5 c k)) ∷ (λ c k. integer (cellAt 6 c k)) ∷ (λ c k. integer (cellAt 7 c k)) ∷ (λ c k. integer (cellAt 8 c k))
+    ∷ (λ c p. integer p) ∷ (λ c p. integer (cellAt 10 c p)) ∷ (λ c p. integer (cellAt 11 c p)) ∷ (λ c p. integer (cellAt 12 c p)) ∷ (λ c k. integer (cellAt 13 c k))
     -- static Address, ReceivePort, AllowedToGoTo, Status: the key's last digit is the receive port
     ∷ (λ c k. text (beOctets 6 (k / 256))) ∷ (λ c k. integer (k % 256)) ∷ (λ c k. ports c (staticOf c k .allowed)) ∷ (λ c k. integer (staticOf c k .status))
     -- DefaultUserPriority, NumTrafficClasses; RegenUserPriority, TrafficClass
-    ∷ (λ c p. integer (cell 18 c p)) ∷ (λ c p. integer 8) ∷ (λ c k. integer (cell 20 c k)) ∷ (λ c k. integer (cell 21 c k))
+    ∷ (λ c p. integer (cellAt 18 c p)) ∷ (λ c p. integer 8) ∷ (λ c k. integer (cellAt 20 c k)) ∷ (λ c k. integer (cellAt 21 c k))
     -- VlanVersionNumber, MaxVlanId, MaxSupportedVlans, NumVlans; VlanNumDeletes
     ∷ (λ c k. integer 1) ∷ (λ c k. integer 4094) ∷ (λ c k. unsigned 256) ∷ (λ c k. unsigned (activeVlans (c .vlans))) ∷ (λ c k. counter (c .deletes))
     -- VLAN Name, Egress, Forbidden, Untagged, RowStatus
     ∷ (λ c v. text (take (vlanOf c v .len) (vlanOf c v .name))) ∷ (λ c v. ports c (vlanOf c v .egress)) ∷ (λ c v. ports c (vlanOf c v .forbidden))
     ∷ (λ c v. ports c (vlanOf c v .untagged)) ∷ (λ c v. integer (vlanOf c v .status))
     -- Pvid, AcceptableFrameTypes, IngressFiltering
-    ∷ (λ c p. unsigned (cell 32 c p)) ∷ (λ c p. integer (cell 33 c p)) ∷ (λ c p. integer (cell 34 c p))
+    ∷ (λ c p. unsigned (cellAt 32 c p)) ∷ (λ c p. integer (cellAt 33 c p)) ∷ (λ c p. integer (cellAt 34 c p))
     ∷ []
 
 -- the value of the instance of the object at place i that has the key k
