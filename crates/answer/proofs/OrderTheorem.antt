@@ -1,6 +1,5 @@
 -- The order law of the answer call's definition (paper 01, demand 3), from the law over contents. Assumes nothing.
 use Prim.Native.Nat.{ℕ, _+_, _≤_}
-use native.Mathlib.Omega.{arith}
 use mathlib.Core.Path.{_≡_, refl, sym, ap, subst, _∙_}
 use mathlib.Core.Bool.{true, true≢false, false≢true}
 use mathlib.Core.List.{List, [], _∷_, map}

@@ -1,6 +1,6 @@
 // Which instances there are, and the next one above a name.
 ghost use mathlib.Core.Path.{_≡_};
-ghost use Prim.Native.Nat.{_<_, _≤_, _*_};
+ghost use Prim.Native.Nat.{_<_, _*_};
 ghost use mathlib.Core.Bool.{true};
 ghost use mathlib.Core.List.{_++_};
 ghost use Rattle.names.specs.SubIds.{subids};

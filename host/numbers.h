@@ -1,0 +1,18 @@
+/* The numbers of refusals and of faults, and their names. */
+#ifndef HOST_NUMBERS_H
+#define HOST_NUMBERS_H
+
+#include <stdint.h>
+
+#include "text.h"
+
+/* The name of a refusal 1 to 10, or NULL. */
+const char *refusal_name(uint32_t number);
+
+/* The name of a status in RFC 3416, or NULL where this bridge never answers it. */
+const char *status_name(uint32_t status);
+
+/* Reads a status by number or by name. */
+bool status_read(struct text word, uint32_t *status);
+
+#endif

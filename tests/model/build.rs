@@ -1,0 +1,73 @@
+//! Finds the library's archive for the differential test, and makes the mutants of the model.
+
+use std::env;
+use std::fs;
+use std::path::{Path, PathBuf};
+
+fn main() {
+    println!("cargo:rustc-check-cfg=cfg(linked)");
+    println!("cargo:rerun-if-env-changed=REFBRIDGE_LIB_DIR");
+    if let Ok(folder) = env::var("REFBRIDGE_LIB_DIR") {
+        println!("cargo:rustc-link-search=native={folder}");
+        println!("cargo:rustc-cfg=linked");
+        println!("cargo:rerun-if-changed={folder}/librefbridge.a");
+    }
+    println!("cargo:rerun-if-changed=build.rs");
+    if env::var("CARGO_FEATURE_MUTANTS").is_ok() {
+        println!("cargo:rerun-if-changed=mutants");
+        println!("cargo:rerun-if-changed=src/model");
+        make_mutants(Path::new(&env::var("OUT_DIR").unwrap()));
+    }
+}
+
+/// A text of one file of the model, and what stands in its place in the mutant.
+struct Edit {
+    what: String,
+    file: String,
+    old: String,
+    new: String,
+}
+
+/// The first line says what is wrong, the second names the file; then the old text, a line of "=" and the new text.
+fn read_edit(path: &Path) -> Edit {
+    let text = fs::read_to_string(path).unwrap();
+    let mut parts = text.splitn(3, '\n');
+    let what = parts.next().unwrap().trim_start_matches("# ").to_string();
+    let file = parts.next().unwrap().to_string();
+    let (old, new) = parts.next().unwrap().split_once("====\n").expect("a line ====");
+    Edit { what, file, old: old.to_string(), new: new.to_string() }
+}
+
+fn make_mutants(out: &Path) {
+    let mut edits: Vec<PathBuf> = fs::read_dir("mutants").unwrap().map(|entry| entry.unwrap().path()).collect();
+    edits.sort();
+    let mut modules = String::new();
+    let mut table = String::from("pub const MUTANTS: &[(&str, Library)] = &[\n");
+    for (at, path) in edits.iter().enumerate() {
+        let edit = read_edit(path);
+        let module = format!("mutant_{}", at + 1);
+        let folder = out.join(&module);
+        copy_changed(&edit, &folder, path);
+        let root = folder.join("mod.rs");
+        modules += &format!("#[allow(dead_code, unused)]\n#[path = {root:?}]\nmod {module};\n");
+        let calls =
+            ["set_up", "answer", "to_256ths", "to_hundredths"].map(|call| format!("{call}: {module}::calls::{call}"));
+        table += &format!("    ({:?}, Library {{ {} }}),\n", edit.what, calls.join(", "));
+    }
+    fs::write(out.join("mutants.rs"), format!("{modules}{table}];\n")).unwrap();
+}
+
+fn copy_changed(edit: &Edit, folder: &Path, path: &Path) {
+    fs::create_dir_all(folder).unwrap();
+    for entry in fs::read_dir("src/model").unwrap() {
+        let source = entry.unwrap().path();
+        let name = source.file_name().unwrap().to_str().unwrap();
+        let mut text = fs::read_to_string(&source).unwrap();
+        if name == edit.file {
+            let found = text.matches(&edit.old).count();
+            assert_eq!(found, 1, "{}: its old text stands {found} times in {name}", path.display());
+            text = text.replacen(&edit.old, &edit.new, 1);
+        }
+        fs::write(folder.join(name), text).unwrap();
+    }
+}

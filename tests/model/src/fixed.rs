@@ -1,0 +1,69 @@
+//! Set-up with right and wrong arguments, and timers over all numbers that matter.
+
+use crate::library::Library;
+use crate::model::calls;
+use crate::model::image::BLOCK;
+use crate::player::{same_octets, same_return, Difference};
+use crate::random::Random;
+use crate::tally::Tally;
+
+/// Every number of ports, with block and address of the right length and of wrong ones; blocks are poisoned.
+pub fn compare_set_up(library: Library, random: &mut Random, tally: &mut Tally) -> Result<(), Difference> {
+    let ports = (0..=70).chain([127, 128, 255, 256, 257, 260, 320, 65536, 65540, 0x8000_0004, u32::MAX]);
+    for ports in ports {
+        for (block_len, address_len) in
+            [(BLOCK, 6), (BLOCK - 1, 6), (BLOCK + 1, 6), (0, 6), (BLOCK, 5), (BLOCK, 7), (BLOCK, 0)]
+        {
+            set_up(library, random, tally, (block_len, ports, address_len))?;
+        }
+    }
+    for _ in 0..100 {
+        let (block_len, address_len) = (random.below(2 * BLOCK), random.below(300));
+        let ports = random.within(0, 65);
+        set_up(library, random, tally, (block_len, ports, 6))?;
+        set_up(library, random, tally, (BLOCK, ports, address_len))?;
+        set_up(library, random, tally, (block_len, ports, address_len))?;
+    }
+    Ok(())
+}
+
+fn set_up(
+    library: Library,
+    random: &mut Random,
+    tally: &mut Tally,
+    (block_len, ports, address_len): (usize, u32, usize),
+) -> Result<(), Difference> {
+    let address = random.octets(address_len).into_boxed_slice();
+    let mut expected = random.poison(block_len);
+    let mut block = expected.clone().into_boxed_slice();
+    let said = calls::set_up(&mut expected, ports, &address);
+    let returned = (library.set_up)(&mut block, ports, &address);
+    note(tally, said, "set-up accepted", 0);
+    let what = format!("set-up of {block_len} octets, {ports} ports, address of {address_len} octets");
+    same_return(&what, returned, said)?;
+    same_octets(&what, &block, &expected)
+}
+
+/// All of 0..70000, and numbers whose products would wrap.
+pub fn compare_timers(library: Library, random: &mut Random, tally: &mut Tally) -> Result<(), Difference> {
+    let huge = (0..32).flat_map(|bit| [1 << bit, (1 << bit) - 1, u32::MAX - (1 << bit), u32::MAX - (1 << bit) + 1]);
+    let wrapping =
+        (0..=25).map(|number| 0x0100_0000 * number + 33).chain((1..100).map(|times| u32::MAX / 100 * times + 5));
+    let any: Vec<u32> = (0..10_000).map(|_| random.number() as u32).collect();
+    for number in (0..=70_000).chain(huge).chain(wrapping).chain(any) {
+        let (said, back) = (calls::to_256ths(number), calls::to_hundredths(number));
+        note(tally, said, "timer converted, to 256ths or back", 0);
+        note(tally, back, "timer converted, to 256ths or back", 1);
+        same_return(&format!("to 256ths of {number}"), (library.to_256ths)(number), said)?;
+        same_return(&format!("to hundredths of {number}"), (library.to_hundredths)(number), back)?;
+    }
+    Ok(())
+}
+
+fn note(tally: &mut Tally, said: (u32, u32), title: &'static str, number: u32) {
+    tally.calls += 1;
+    match said.0 {
+        0 => tally.note(title, number),
+        refusal => tally.note("refused", refusal),
+    }
+}

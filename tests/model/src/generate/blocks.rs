@@ -1,0 +1,139 @@
+//! Changes of a block's octets from outside, most of which make it no legal image.
+
+use crate::model::bridge::{instances, Bridge};
+use crate::model::image::*;
+use crate::model::names::{type_of, Syntax};
+use crate::random::Random;
+
+/// Octets to put at an offset of the block.
+pub type Poke = (usize, Vec<u8>);
+
+/// One change, or a few.
+pub fn pokes(random: &mut Random, bridge: &Bridge, block: &[u8]) -> Vec<Poke> {
+    let several = random.pick(&[1, 1, 1, 1, 2, 4]);
+    (0..several).map(|_| poke(random, bridge, block)).collect()
+}
+
+fn poke(random: &mut Random, bridge: &Bridge, block: &[u8]) -> Poke {
+    match random.below(10) {
+        0 => changed(random, block, 0..BLOCK),
+        1 => anywhere_of_a_part(random, block),
+        2 => head(random, bridge),
+        3 | 4 => cell(random, bridge),
+        5 | 6 => vlan_row(random, bridge, block),
+        7 | 8 => static_row(random, bridge, block),
+        _ => (DELETES, random.octets(4)),
+    }
+}
+
+/// One octet of a range with one bit flipped, or with any value.
+fn changed(random: &mut Random, block: &[u8], range: std::ops::Range<usize>) -> Poke {
+    let at = range.start + random.below(range.len());
+    let octet = if random.chance(50) { block[at] ^ (1 << random.below(8)) } else { random.octet() };
+    (at, vec![octet])
+}
+
+/// The parts of the layout, the ends of each more often.
+fn anywhere_of_a_part(random: &mut Random, block: &[u8]) -> Poke {
+    let part =
+        random.pick(&[0..22, 22..32, 32..5940, 5940..6196, 6196..21556, 21556..25652, 25652..26164, 26164..BLOCK]);
+    match random.below(3) {
+        0 => changed(random, block, part.start..part.start + 1),
+        1 => changed(random, block, part.end - 1..part.end),
+        _ => changed(random, block, part),
+    }
+}
+
+fn number(value: u32) -> Vec<u8> {
+    value.to_be_bytes().to_vec()
+}
+
+fn head(random: &mut Random, bridge: &Bridge) -> Poke {
+    let (vlans, statics) = (bridge.vlans.len() as u32, bridge.statics.len() as u32);
+    let near = |random: &mut Random, now: u32| {
+        let values =
+            [now.wrapping_sub(1), now + 1, 0, 64, 65, 256, 257, now + 0x100, now | 0x8000_0000, now + 0x0100_0000];
+        number(random.pick(&values))
+    };
+    match random.below(4) {
+        0 => (PORTS, near(random, bridge.ports)),
+        1 => (VLAN_COUNT, near(random, vlans)),
+        2 => (STATIC_COUNT, near(random, statics)),
+        _ => (ADDRESS + random.below(16), vec![random.octet()]),
+    }
+}
+
+/// A cell at the ends of its range, or one of a port above N.
+fn cell(random: &mut Random, bridge: &Bridge) -> Poke {
+    let (object, start) = random.pick(&CELLS);
+    let (Syntax::Integer(low, high) | Syntax::Unsigned(low, high)) = type_of(object).syntax else { unreachable!() };
+    let ports = if random.chance(20) { 64 } else { bridge.ports };
+    let place = random.below(instances(object, ports));
+    let any = random.number() as u32;
+    let values = [low, high, low.wrapping_sub(1), high + 1, low | 0x8000_0000, low + 0x0001_0000, 0, any];
+    (start + 4 * place, number(random.pick(&values)))
+}
+
+fn row_octets(block: &[u8], start: usize, size: usize, place: usize) -> Vec<u8> {
+    block[start + size * place..start + size * (place + 1)].to_vec()
+}
+
+/// A row of a table whose size stays as it is: removed, repeated, exchanged with the next.
+fn moved_row(random: &mut Random, block: &[u8], start: usize, size: usize, rows: usize) -> Poke {
+    let place = random.below(rows + 1).min(255);
+    let other = (place + 1).min(255);
+    let (row, next) = (row_octets(block, start, size, place), row_octets(block, start, size, other));
+    match random.below(4) {
+        0 => (start + size * place, vec![0; size]),
+        1 => (start + size * other, row),
+        2 => (start + size * place, next),
+        _ if place == other => (start + size * place, random.octets(size)),
+        _ => (start + size * place, [next, row].concat()),
+    }
+}
+
+/// The last row, the first free slot, or any row.
+fn some_place(random: &mut Random, rows: usize) -> usize {
+    let any = random.below(rows + 1);
+    random.pick(&[rows.saturating_sub(1), rows, any, 0]).min(255)
+}
+
+fn vlan_row(random: &mut Random, bridge: &Bridge, block: &[u8]) -> Poke {
+    let rows = bridge.vlans.len();
+    let start = VLAN_ROWS + VLAN_ROW * some_place(random, rows);
+    let name_len = usize::from(block[start + 3].min(32));
+    match random.below(10) {
+        0 => moved_row(random, block, VLAN_ROWS, VLAN_ROW, rows),
+        1 => (start, random.pick(&[vec![0, 0], vec![0x0F, 0xFF], vec![0x0F, 0xFE], vec![0x80, 1], vec![0, 1]])),
+        2 => (start + 2, vec![random.pick(&[0, 1, 2, 3, 4, 255])]),
+        3 => (start + 3, vec![random.pick(&[0, 31, 32, 33, 255, name_len as u8 + 1])]),
+        4 => (start + 4 + name_len.min(31), vec![random.octet()]),
+        5 => (start + 4 + random.below(32), vec![random.octet()]),
+        6 => {
+            // One port added to Egress, Forbidden or Untagged: above N, shared, or right.
+            let at = start + random.pick(&[36, 44, 52]) + random.below(8);
+            (at, vec![block[at] | 1 << random.below(8)])
+        }
+        7 => {
+            let egress = block[start + 36..start + 44].to_vec();
+            (start + 44, egress)
+        }
+        8 => (VLAN_COUNT, number(rows as u32 + 1 - 2 * random.below(2) as u32 * u32::from(rows > 0))),
+        _ => changed(random, block, start..start + VLAN_ROW),
+    }
+}
+
+fn static_row(random: &mut Random, bridge: &Bridge, block: &[u8]) -> Poke {
+    let rows = bridge.statics.len();
+    let start = STATIC_ROWS + STATIC_ROW * some_place(random, rows);
+    let ports = bridge.ports as u8;
+    match random.below(7) {
+        0 => moved_row(random, block, STATIC_ROWS, STATIC_ROW, rows),
+        1 => (start + random.below(6), vec![random.within(0, 255) as u8]),
+        2 => (start + 6, vec![random.pick(&[0, ports, ports + 1, 255])]),
+        3 => (start + 7, vec![random.pick(&[0, 1, 2, 3, 4, 5, 6, 255])]),
+        4 => (start + 8, random.octets(8)),
+        5 => (STATIC_COUNT, number(rows as u32 + 1 - 2 * random.below(2) as u32 * u32::from(rows > 0))),
+        _ => changed(random, block, start..start + STATIC_ROW),
+    }
+}

@@ -1,0 +1,100 @@
+//! Contents to write: right ones, and wrong in type, length or value.
+
+use crate::model::bridge::{all_ports, Bridge, PortSet};
+use crate::model::message::Content;
+use crate::model::names::{ObjectType, Syntax};
+use crate::random::Random;
+
+/// A set of ports 1..N: few, many, all or none.
+pub fn port_set(random: &mut Random, ports: u32) -> PortSet {
+    let set = match random.below(6) {
+        0 => 0,
+        1 => u64::MAX,
+        2 => 1 << random.below(64),
+        3 => random.number() & random.number(),
+        4 => random.number() | random.number(),
+        _ => random.number(),
+    };
+    set & all_ports(ports)
+}
+
+/// The octets that write a set, with or without the last ones that are 0.
+pub fn port_octets(random: &mut Random, set: PortSet) -> Content {
+    let octets = set.to_be_bytes();
+    let needed = 8 - set.trailing_zeros() as usize / 8;
+    Content::String(octets[..needed + random.below(9 - needed)].to_vec())
+}
+
+/// Right in type, length and value.
+pub fn right(random: &mut Random, bridge: &Bridge, entry: &ObjectType) -> Content {
+    match entry.syntax {
+        Syntax::Integer(low, high) => Content::Integer(random.within(low, high) as i32),
+        Syntax::Unsigned(low, high) => Content::Unsigned(random.within(low, high)),
+        Syntax::Counter => Content::Counter(random.number() as u32),
+        Syntax::Address => Content::String(random.octets(6)),
+        Syntax::Text => {
+            let octets = random.within(0, 32) as usize;
+            Content::String(random.octets(octets))
+        }
+        Syntax::Ports => {
+            let set = port_set(random, bridge.ports);
+            port_octets(random, set)
+        }
+        Syntax::RowStatus => Content::Integer(random.pick(&[1, 2, 4, 5, 6])),
+        Syntax::StaticStatus => Content::Integer(random.pick(&[2, 3, 4, 5])),
+    }
+}
+
+/// Any content that a set may carry.
+pub fn any(random: &mut Random) -> Content {
+    let number = random.number() as u32;
+    let number = random.pick(&[0, 1, 2, 3, 4, 5, 6, 7, 256, 0xFFFF_FFFF, number]);
+    match random.below(4) {
+        0 => Content::Integer(number as i32),
+        1 => Content::Unsigned(number),
+        2 => Content::Counter(number),
+        _ => {
+            let octets = random.pick(&[0, 1, 4, 8, 9, 32, 33]);
+            Content::String(random.octets(octets))
+        }
+    }
+}
+
+pub fn wrong_type(random: &mut Random, bridge: &Bridge, entry: &ObjectType) -> Content {
+    let right = right(random, bridge, entry);
+    loop {
+        let content = any(random);
+        if std::mem::discriminant(&content) != std::mem::discriminant(&right) {
+            return content;
+        }
+    }
+}
+
+/// None where the object's type has no wrong length.
+pub fn wrong_length(random: &mut Random, entry: &ObjectType) -> Option<Content> {
+    let octets = match entry.syntax {
+        Syntax::Text => random.pick(&[33, 34, 64, 255]),
+        Syntax::Ports => random.pick(&[9, 10, 16, 255]),
+        _ => return None,
+    };
+    let zero = random.chance(30);
+    Some(Content::String(if zero { vec![0; octets] } else { random.octets(octets) }))
+}
+
+/// None where the object's type has no wrong value.
+pub fn wrong_value(random: &mut Random, bridge: &Bridge, entry: &ObjectType) -> Option<Content> {
+    let negative = -1 - random.below(70_000) as i32;
+    let far = random.pick(&[i32::MIN, i32::MAX, -1, negative]);
+    Some(match entry.syntax {
+        Syntax::Integer(low, high) => Content::Integer(random.pick(&[low as i32 - 1, high as i32 + 1, far])),
+        Syntax::Unsigned(_, high) => Content::Unsigned(random.pick(&[0, high + 1, 65536 + 1, 0x8000_0001, u32::MAX])),
+        Syntax::RowStatus => Content::Integer(random.pick(&[0, 3, 7, 260, far])),
+        Syntax::StaticStatus => Content::Integer(random.pick(&[0, 1, 6, 259, far])),
+        Syntax::Ports if bridge.ports < 64 => {
+            let above = random.within(bridge.ports + 1, 64);
+            let set = port_set(random, bridge.ports) | 1 << (64 - above);
+            port_octets(random, set)
+        }
+        _ => return None,
+    })
+}

@@ -1,0 +1,310 @@
+//! Set messages: those that should be accepted, those with a seeded fault, and bindings crowded on a few rows.
+
+use super::contents::{any, port_octets, port_set, right, wrong_length, wrong_type, wrong_value};
+use super::names::{any_name, impossible_index, object, possible_index, present_index};
+use crate::model::bridge::{Bridge, MOST_ROWS};
+use crate::model::message::{write_request, Binding, Content, Kind, Request, LONGEST, MOST_BINDINGS};
+use crate::model::names::{type_of, Object, ObjectType, Shape, Syntax, TABLE};
+use crate::random::Random;
+
+fn bind(object: Object, index: &[u32], content: Content) -> Binding {
+    Binding { name: type_of(object).name(index), content }
+}
+
+pub fn fits(bindings: &[Binding]) -> bool {
+    let request = Request { kind: Kind::Set, id: 0, bindings: bindings.to_vec() };
+    bindings.len() <= MOST_BINDINGS && write_request(&request).len() <= LONGEST
+}
+
+/// Adds a group where the message still has room for all of it and has none of its names.
+fn add(bindings: &mut Vec<Binding>, group: Vec<Binding>) {
+    let repeated = group.iter().any(|new| bindings.iter().any(|old| old.name == new.name));
+    let before = bindings.len();
+    bindings.extend(group);
+    if repeated || !fits(bindings) {
+        bindings.truncate(before);
+    }
+}
+
+/// An object that a set may write, of a shape.
+fn writable(random: &mut Random, wanted: fn(&ObjectType) -> bool) -> &'static ObjectType {
+    loop {
+        let entry = object(random);
+        if entry.writable() && wanted(entry) {
+            return entry;
+        }
+    }
+}
+
+fn setting(random: &mut Random, bridge: &Bridge) -> Vec<Binding> {
+    let entry = writable(random, ObjectType::is_setting);
+    let index = possible_index(random, bridge, entry.shape);
+    vec![bind(entry.object, &index, right(random, bridge, entry))]
+}
+
+/// Some columns of a VLAN row whose resulting Egress and Forbidden share no port, without its status.
+fn vlan_columns(random: &mut Random, bridge: &Bridge, id: u32) -> Vec<Binding> {
+    let old = bridge.vlans.get(&id).cloned().unwrap_or_default();
+    let written = random.below(16);
+    let mut forbidden = old.forbidden;
+    let mut group = Vec::new();
+    if written & 1 != 0 {
+        let kept = if written & 2 != 0 { 0 } else { old.egress };
+        forbidden = port_set(random, bridge.ports) & !kept;
+        group.push(bind(Object::VlanForbidden, &[id], port_octets(random, forbidden)));
+    }
+    if written & 2 != 0 {
+        let egress = port_set(random, bridge.ports) & !forbidden;
+        group.push(bind(Object::VlanEgress, &[id], port_octets(random, egress)));
+    }
+    for (bit, column) in [(4, Object::VlanUntagged), (8, Object::VlanName)] {
+        if written & bit != 0 {
+            group.push(bind(column, &[id], right(random, bridge, type_of(column))));
+        }
+    }
+    group
+}
+
+/// What one message may do to a VLAN row without a fault.
+fn vlan_group(random: &mut Random, bridge: &Bridge) -> Vec<Binding> {
+    let id = possible_index(random, bridge, Shape::Vlan)[0];
+    let status = |number| bind(Object::VlanRowStatus, &[id], Content::Integer(number));
+    let present = bridge.vlans.contains_key(&id);
+    if random.chance(15) {
+        return vec![status(6)];
+    }
+    let mut group = vlan_columns(random, bridge, id);
+    if !present {
+        group.push(status(random.pick(&[4, 5])));
+    } else if random.chance(40) || group.is_empty() {
+        group.push(status(random.pick(&[1, 2])));
+    }
+    group
+}
+
+/// What one message may do to a static row without a fault.
+fn static_group(random: &mut Random, bridge: &Bridge) -> Vec<Binding> {
+    let index = possible_index(random, bridge, Shape::Static);
+    let present = bridge.get(Object::StaticStatus, &index).is_some();
+    if random.chance(15) {
+        return vec![bind(Object::StaticStatus, &index, Content::Integer(2))];
+    }
+    let ports = port_set(random, bridge.ports);
+    let mut group = vec![bind(Object::StaticAllowedToGoTo, &index, port_octets(random, ports))];
+    if !present || random.chance(50) {
+        group.push(bind(Object::StaticStatus, &index, Content::Integer(random.pick(&[3, 4, 5]))));
+    }
+    if (present || group.len() == 2) && random.chance(20) {
+        group.remove(0);
+    }
+    group
+}
+
+/// Bindings in any order that are free of faults, as long as the tables have room.
+pub fn careful(random: &mut Random, bridge: &Bridge) -> Vec<Binding> {
+    let mut bindings = Vec::new();
+    for _ in 0..random.below(10) {
+        let group = match random.below(4) {
+            0 => setting(random, bridge),
+            1 => static_group(random, bridge),
+            _ => vlan_group(random, bridge),
+        };
+        add(&mut bindings, group);
+    }
+    random.shuffle(&mut bindings);
+    bindings
+}
+
+/// A careful message with one binding, or two that do not go together, put in at any place.
+pub fn faulty(random: &mut Random, bridge: &Bridge) -> Vec<Binding> {
+    let mut bindings = careful(random, bridge);
+    for fault in at_fault(random, bridge, &bindings) {
+        bindings.insert(random.below(bindings.len() + 1), fault);
+    }
+    while !fits(&bindings) {
+        bindings.remove(random.below(bindings.len()));
+    }
+    bindings
+}
+
+fn at_fault(random: &mut Random, bridge: &Bridge, bindings: &[Binding]) -> Vec<Binding> {
+    let entry = writable(random, |_| true);
+    let index = possible_index(random, bridge, entry.shape);
+    let with = |content| vec![bind(entry.object, &index, content)];
+    match random.below(10) {
+        0 if !bindings.is_empty() => {
+            let name = random.pick(bindings).name;
+            let content = if random.chance(50) { random.pick(bindings).content } else { any(random) };
+            vec![Binding { name, content }]
+        }
+        0 | 1 => vec![Binding { name: any_name(random, bridge), content: any(random) }],
+        2 => vec![not_writable(random, bridge)],
+        3 => with(wrong_type(random, bridge, entry)),
+        4 => {
+            let entry = writable(random, |entry| matches!(entry.syntax, Syntax::Text | Syntax::Ports));
+            let index = possible_index(random, bridge, entry.shape);
+            wrong_length(random, entry).map(|content| bind(entry.object, &index, content)).into_iter().collect()
+        }
+        5 => with(wrong_value(random, bridge, entry).unwrap_or_else(|| any(random))),
+        6 => {
+            let index = impossible_index(random, bridge, entry.shape);
+            vec![bind(entry.object, &index, right(random, bridge, entry))]
+        }
+        7 => with(right(random, bridge, entry)),
+        8 => removed_and_written(random, bridge),
+        _ => at_odds(random, bridge),
+    }
+}
+
+fn not_writable(random: &mut Random, bridge: &Bridge) -> Binding {
+    loop {
+        let entry = object(random);
+        if !entry.writable() {
+            let index = possible_index(random, bridge, entry.shape);
+            return bind(entry.object, &index, right(random, bridge, entry));
+        }
+    }
+}
+
+/// A row that the request removes, mostly one that stands, and another column of it.
+fn removed_and_written(random: &mut Random, bridge: &Bridge) -> Vec<Binding> {
+    let status = random.pick(&[Object::VlanRowStatus, Object::StaticStatus]);
+    let beside = random.chance(20);
+    let index = some_row(random, bridge, status, beside);
+    let column = match status {
+        Object::VlanRowStatus => writable(random, |entry| entry.shape == Shape::Vlan),
+        _ => type_of(Object::StaticAllowedToGoTo),
+    };
+    vec![
+        bind(status, &index, status_of(random, status, false)),
+        bind(column.object, &index, right(random, bridge, column)),
+    ]
+}
+
+/// Egress and Forbidden of one row, one or both of them written, and any status.
+fn at_odds(random: &mut Random, bridge: &Bridge) -> Vec<Binding> {
+    let index = possible_index(random, bridge, Shape::Vlan);
+    let mut group = Vec::new();
+    for column in [Object::VlanEgress, Object::VlanForbidden] {
+        if random.chance(60) {
+            group.push(bind(column, &index, right(random, bridge, type_of(column))));
+        }
+    }
+    if random.chance(50) {
+        group.push(bind(Object::VlanRowStatus, &index, Content::Integer(random.pick(&[1, 2, 3, 4, 4, 5, 6]))));
+    }
+    group
+}
+
+/// Many bindings on few rows and scalars, of any value: makes faults meet each other.
+pub fn crowded(random: &mut Random, bridge: &Bridge) -> Vec<Binding> {
+    let shapes = [Shape::Vlan, Shape::Vlan, Shape::Static, Shape::Port, Shape::Scalar, Shape::PortPriority];
+    let rows: Vec<(Shape, Vec<u32>)> = (0..1 + random.below(4))
+        .map(|_| {
+            let shape = random.pick(&shapes);
+            (shape, possible_index(random, bridge, shape))
+        })
+        .collect();
+    let mut bindings = Vec::new();
+    for _ in 0..1 + random.below(MOST_BINDINGS) {
+        let (shape, index) = random.pick(&rows);
+        let of_shape: Vec<&ObjectType> = TABLE.iter().filter(|entry| entry.shape == shape).collect();
+        let entry = random.pick(&of_shape);
+        let content = match random.below(20) {
+            0 => any(random),
+            1 => wrong_value(random, bridge, entry).unwrap_or_else(|| any(random)),
+            2 => wrong_length(random, entry).unwrap_or_else(|| any(random)),
+            _ => right(random, bridge, entry),
+        };
+        bindings.push(bind(entry.object, &index, content));
+        if !fits(&bindings) {
+            bindings.pop();
+        }
+    }
+    bindings
+}
+
+/// Egress and Forbidden of a present row set, then exchanged in one message; now and then with a port in both.
+pub fn exchange(random: &mut Random, bridge: &Bridge) -> Vec<Vec<Binding>> {
+    let Some(index) = present_index(random, bridge, Shape::Vlan) else { return Vec::new() };
+    let one = port_set(random, bridge.ports);
+    let other = port_set(random, bridge.ports) & !one;
+    let mut shared = 0;
+    if random.chance(25) {
+        shared = one & one.wrapping_neg();
+    }
+    let mut message = |egress, forbidden| {
+        let mut both = vec![
+            bind(Object::VlanEgress, &index, port_octets(random, egress)),
+            bind(Object::VlanForbidden, &index, port_octets(random, forbidden)),
+        ];
+        random.shuffle(&mut both);
+        both
+    };
+    vec![message(one, other), message(other | shared, one)]
+}
+
+/// Makes and removes rows of one table; where it is nearly full, so that 255 to 257 rows would stand afterwards.
+pub fn at_full(random: &mut Random, bridge: &Bridge) -> Vec<Binding> {
+    let (status, column, mut rows) = if random.chance(50) {
+        (Object::VlanRowStatus, Object::VlanName, bridge.vlans.len())
+    } else {
+        (Object::StaticStatus, Object::StaticAllowedToGoTo, bridge.statics.len())
+    };
+    let wanted = MOST_ROWS + 1 - random.below(3);
+    let mut bindings = Vec::new();
+    for _ in 0..1 + random.below(MOST_BINDINGS) {
+        let making = random.chance(if rows < wanted { 80 } else { 30 });
+        let index = some_row(random, bridge, status, making);
+        let content = status_of(random, status, making);
+        let present = bridge.get(status, &index).is_some();
+        rows = rows + usize::from(making && !present) - usize::from(!making && present && rows > 0);
+        add(&mut bindings, vec![bind(status, &index, content)]);
+        if making && random.chance(20) {
+            add(&mut bindings, vec![bind(column, &index, right(random, bridge, type_of(column)))]);
+        }
+    }
+    random.shuffle(&mut bindings);
+    bindings
+}
+
+/// A row to make, which may stand already, or one that stands to remove.
+fn some_row(random: &mut Random, bridge: &Bridge, status: Object, making: bool) -> Vec<u32> {
+    let shape = type_of(status).shape;
+    let present = if making { None } else { present_index(random, bridge, shape) };
+    present.unwrap_or_else(|| possible_index(random, bridge, shape))
+}
+
+/// A status that makes or removes a row.
+fn status_of(random: &mut Random, status: Object, making: bool) -> Content {
+    let numbers: &[i32] = match (status, making) {
+        (Object::VlanRowStatus, true) => &[4, 5],
+        (Object::VlanRowStatus, false) => &[6],
+        (_, true) => &[3, 4, 5],
+        (_, false) => &[2],
+    };
+    Content::Integer(random.pick(numbers))
+}
+
+/// Messages that fill a table to so many rows, 16 rows each.
+pub fn filling(random: &mut Random, bridge: &Bridge, rows: usize) -> Vec<Vec<Binding>> {
+    let of_vlans = random.chance(50);
+    let mut made: Vec<Binding> = if of_vlans {
+        let first = random.pick(&[2, 1000, 4094 - 256]);
+        let absent = (first..4095).filter(|id| !bridge.vlans.contains_key(id));
+        let missing = rows.saturating_sub(bridge.vlans.len());
+        absent.take(missing).map(|id| bind(Object::VlanRowStatus, &[id], Content::Integer(4 + id as i32 % 2))).collect()
+    } else {
+        let address = |place: u32| [0, spread(place), 7, 0, place / 256, place % 256, place % (bridge.ports + 1)];
+        let absent = (0..).map(address).filter(|index| !bridge.statics.contains_key(index));
+        let missing = rows.saturating_sub(bridge.statics.len());
+        absent.take(missing).map(|index| bind(Object::StaticStatus, &index, Content::Integer(3))).collect()
+    };
+    random.shuffle(&mut made);
+    made.chunks(MOST_BINDINGS).map(<[Binding]>::to_vec).collect()
+}
+
+/// Spreads the addresses of a filled table.
+fn spread(place: u32) -> u32 {
+    place.wrapping_mul(0x9E37_79B1) >> 24
+}

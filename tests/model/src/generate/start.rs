@@ -1,0 +1,72 @@
+//! Bridges that a history starts from.
+
+use super::contents::port_set;
+use crate::model::bridge::{Bridge, StaticRow, VlanRow};
+use crate::model::names::{type_of, Syntax};
+use crate::random::Random;
+
+/// Numbers of ports on both sides of every octet border, and the ends.
+pub const PORTS: [u32; 18] = [1, 2, 3, 4, 5, 7, 8, 9, 15, 16, 17, 31, 32, 33, 56, 57, 63, 64];
+
+pub fn ports(random: &mut Random) -> u32 {
+    if random.chance(80) {
+        random.pick(&PORTS)
+    } else {
+        random.within(1, 64)
+    }
+}
+
+pub fn address(random: &mut Random) -> [u8; 6] {
+    random.octets(6).try_into().unwrap()
+}
+
+/// Random numbers in every range, and tables of few, many or all the rows they can have.
+pub fn filled(random: &mut Random, mut bridge: Bridge) -> Bridge {
+    for (object, numbers) in &mut bridge.settings {
+        let (Syntax::Integer(low, high) | Syntax::Unsigned(low, high)) = type_of(*object).syntax else { continue };
+        if random.chance(70) {
+            numbers.iter_mut().for_each(|number| *number = random.within(low, high));
+        }
+    }
+    let any = random.number() as u32;
+    bridge.vlan_deletes = random.pick(&[0, 1, u32::MAX, u32::MAX - 1, 0x00FF_FFFF, any]);
+    bridge.vlans.clear();
+    let (vlans, statics) = (rows(random), rows(random));
+    let dense = random.chance(50);
+    let first = random.pick(&[1, 2, 1000, 4094 - 255]);
+    while bridge.vlans.len() < vlans {
+        let id = if dense { first + bridge.vlans.len() as u32 } else { random.within(1, 4094) };
+        bridge.vlans.insert(id, vlan_row(random, bridge.ports));
+    }
+    while bridge.statics.len() < statics {
+        let index = static_index(random, bridge.ports, dense);
+        let row = StaticRow { allowed: port_set(random, bridge.ports), status: random.within(3, 5) };
+        bridge.statics.insert(index, row);
+    }
+    bridge
+}
+
+fn rows(random: &mut Random) -> usize {
+    let few = random.below(20);
+    random.pick(&[0, 1, 2, few, few, 100, 254, 255, 255, 256, 256])
+}
+
+fn vlan_row(random: &mut Random, ports: u32) -> VlanRow {
+    let egress = port_set(random, ports);
+    let octets = random.within(0, 32) as usize;
+    VlanRow {
+        active: random.chance(60),
+        name: random.octets(octets),
+        egress,
+        forbidden: port_set(random, ports) & !egress,
+        untagged: port_set(random, ports),
+    }
+}
+
+/// Dense addresses differ in few octets, and more rows have one address with different receive ports.
+fn static_index(random: &mut Random, ports: u32, dense: bool) -> [u32; 7] {
+    let octet = |random: &mut Random| if dense { random.pick(&[0, 1, 2, 255]) } else { random.within(0, 255) };
+    let mut index: [u32; 7] = std::array::from_fn(|_| octet(random));
+    index[6] = random.within(0, ports);
+    index
+}

@@ -1,0 +1,15 @@
+//! An ordinary implementation of the reference bridge, and what the differential test needs beside it.
+
+pub mod case_file;
+pub mod fixed;
+pub mod generate;
+pub mod library;
+pub mod model;
+pub mod player;
+pub mod random;
+pub mod shrink;
+pub mod step;
+pub mod sweeps;
+pub mod tally;
+
+pub use model::bridge::Bridge;

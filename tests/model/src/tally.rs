@@ -1,0 +1,205 @@
+//! Counts of what was compared, so that a test that compares nothing is seen.
+
+use crate::generate::scripts::SCRIPTS;
+use crate::generate::start::PORTS;
+use crate::model::bridge::{Bridge, MOST_ROWS};
+use crate::model::message::{read, write_answer, Binding, Kind, Request, LONGEST};
+use crate::model::names::{split, Object, Shape, TABLE};
+use std::collections::BTreeMap;
+
+#[derive(Default)]
+pub struct Tally {
+    counts: BTreeMap<(&'static str, u32), u64>,
+    pub calls: u64,
+}
+
+/// What must have been met at least once: a title and its numbers.
+fn required() -> Vec<(&'static str, Vec<u32>)> {
+    let writable = TABLE.iter().filter(|entry| entry.writable()).map(|entry| entry.object as u32);
+    vec![
+        ("refused", (1..=10).collect()),
+        ("set at fault", vec![5, 7, 8, 10, 11, 12, 13, 17, 18]),
+        ("fault at binding", (1..=16).collect()),
+        ("content, by tag", vec![0x21, 0x22, 0x23, 0x24, 0x30, 0x31, 0x32]),
+        ("object read", (0..TABLE.len() as u32).collect()),
+        ("object written", writable.collect()),
+        ("get, by bindings", (0..=16).collect()),
+        ("get-next, by bindings", (0..=16).collect()),
+        ("set accepted, by bindings", (0..=16).collect()),
+        ("set accepted, unchanged or changed", vec![0, 1]),
+        ("tooBig, get or get-next", vec![0, 1]),
+        ("tooBig by one octet", vec![0]),
+        ("answer of 1472 octets", vec![0]),
+        ("request of 1472 octets", vec![0]),
+        ("VLAN rows", vec![0, 1, 254, 255, 256]),
+        ("static rows", vec![0, 1, 254, 255, 256]),
+        ("row made where 256 stood, VLAN or static", vec![0, 1]),
+        ("column before the status that makes its row, VLAN or static", vec![0, 1]),
+        ("Egress and Forbidden exchanged", vec![0]),
+        ("VlanNumDeletes passed 2^32", vec![0]),
+        ("ports", PORTS.to_vec()),
+        ("pair, by accepted messages", vec![0, 1, 2]),
+        ("changed block, not legal or legal", vec![0, 1]),
+        ("start, fresh or filled", vec![0, 1]),
+        ("script", (0..SCRIPTS.len() as u32).collect()),
+        ("set-up accepted", vec![0]),
+        ("timer converted, to 256ths or back", vec![0, 1]),
+    ]
+}
+
+impl Tally {
+    pub fn note(&mut self, title: &'static str, number: u32) {
+        *self.counts.entry((title, number)).or_default() += 1;
+    }
+
+    /// Notes an answer call by what the model says of it.
+    pub fn note_call(
+        &mut self,
+        octets: &[u8],
+        before: Option<&Bridge>,
+        after: Option<&Bridge>,
+        said: &Result<Vec<u8>, u32>,
+    ) {
+        self.calls += 1;
+        match (said, before, after) {
+            (Err(refusal), _, _) => self.note("refused", *refusal),
+            (Ok(answer), Some(before), Some(after)) => {
+                self.note_sizes(octets, before, answer);
+                self.note_answer(&read(octets).expect("answered"), before, after, answer);
+            }
+            _ => unreachable!("answered without a legal block"),
+        }
+    }
+
+    fn note_sizes(&mut self, request: &[u8], before: &Bridge, answer: &[u8]) {
+        self.note("ports", before.ports);
+        for (title, rows) in [("VLAN rows", before.vlans.len()), ("static rows", before.statics.len())] {
+            if matches!(rows, 0 | 1 | 254..) {
+                self.note(title, rows as u32);
+            }
+        }
+        if answer.len() == LONGEST {
+            self.note("answer of 1472 octets", 0);
+        }
+        if request.len() == LONGEST {
+            self.note("request of 1472 octets", 0);
+        }
+    }
+
+    fn note_answer(&mut self, request: &Request, before: &Bridge, after: &Bridge, answer: &[u8]) {
+        let bindings = request.bindings.len() as u32;
+        let (status, index) = (answer[14], answer[15]);
+        match (request.kind, status) {
+            (Kind::Set, 0) => self.note_accepted(&request.bindings, before, after),
+            (Kind::Set, fault) => {
+                self.note("set at fault", fault.into());
+                self.note("fault at binding", index.into());
+            }
+            (kind, 1) => {
+                self.note("tooBig, get or get-next", u32::from(kind == Kind::GetNext));
+                if whole_len(before, request) == LONGEST + 1 {
+                    self.note("tooBig by one octet", 0);
+                }
+            }
+            (kind, _) => {
+                self.note(if kind == Kind::Get { "get, by bindings" } else { "get-next, by bindings" }, bindings);
+                self.note_contents(answer);
+            }
+        }
+    }
+
+    fn note_accepted(&mut self, bindings: &[Binding], before: &Bridge, after: &Bridge) {
+        self.note("set accepted, by bindings", bindings.len() as u32);
+        self.note("set accepted, unchanged or changed", u32::from(before != after));
+        if after.vlan_deletes < before.vlan_deletes {
+            self.note("VlanNumDeletes passed 2^32", 0);
+        }
+        for (at, binding) in bindings.iter().enumerate() {
+            let Some((entry, index)) = split(&binding.name) else { continue };
+            self.note("object written", entry.object as u32);
+            let made = before.get(entry.object, index).is_none() && after.get(entry.object, index).is_some();
+            if made && matches!(entry.object, Object::VlanRowStatus | Object::StaticStatus) {
+                self.note_made(entry.shape, index, &bindings[..at], before);
+            }
+            if entry.object == Object::VlanEgress && exchanged(before, after, index[0]) {
+                self.note("Egress and Forbidden exchanged", 0);
+            }
+        }
+    }
+
+    /// Notes a made row where a simpler agent might not make it.
+    fn note_made(&mut self, shape: Shape, index: &[u32], earlier: &[Binding], before: &Bridge) {
+        let (rows, number) = match shape {
+            Shape::Vlan => (before.vlans.len(), 0),
+            _ => (before.statics.len(), 1),
+        };
+        if rows == MOST_ROWS {
+            self.note("row made where 256 stood, VLAN or static", number);
+        }
+        let of_row =
+            |binding: &Binding| split(&binding.name).is_some_and(|(entry, at)| entry.shape == shape && at == index);
+        if earlier.iter().any(of_row) {
+            self.note("column before the status that makes its row, VLAN or static", number);
+        }
+    }
+
+    fn note_contents(&mut self, answer: &[u8]) {
+        let length = |at: usize| usize::from(answer[at + 1]) * 256 + usize::from(answer[at + 2]);
+        let mut at = 16;
+        while at < answer.len() {
+            let name_len = length(at + 3);
+            let tag = answer[at + 6 + name_len];
+            self.note("content, by tag", tag.into());
+            let sub_ids = answer[at + 6..at + 6 + name_len].chunks_exact(4);
+            let name: Vec<u32> = sub_ids.map(|octets| u32::from_be_bytes(octets.try_into().unwrap())).collect();
+            if let (Some((entry, _)), true) = (split(&name), tag < 0x30) {
+                self.note("object read", entry.object as u32);
+            }
+            at += 3 + length(at);
+        }
+    }
+
+    /// Prints all counts, and gives what was never met.
+    pub fn report(&self) -> Vec<String> {
+        let mut titles: Vec<&'static str> = self.counts.keys().map(|(title, _)| *title).collect();
+        titles.dedup();
+        for title in titles {
+            let of_title = self.counts.iter().filter(|((other, _), _)| *other == title);
+            let counts = of_title.map(|((_, number), count)| format!("{} {count}", label(title, *number)));
+            println!("{title}: {}", counts.collect::<Vec<String>>().join(", "));
+        }
+        let mut missing = Vec::new();
+        for (title, numbers) in required() {
+            let never = numbers.into_iter().filter(|number| !self.counts.contains_key(&(title, *number)));
+            missing.extend(never.map(|number| format!("{title}: {}", label(title, number))));
+        }
+        missing
+    }
+}
+
+/// A number as it is reported.
+fn label(title: &str, number: u32) -> String {
+    match title {
+        "object read" | "object written" => format!("{:?}", TABLE[number as usize].object),
+        "content, by tag" => format!("{number:X}:"),
+        "script" => SCRIPTS[number as usize].0.to_string(),
+        _ => format!("{number}:"),
+    }
+}
+
+/// A port went from Egress to Forbidden, and another one the other way.
+fn exchanged(before: &Bridge, after: &Bridge, id: u32) -> bool {
+    match (before.vlans.get(&id), after.vlans.get(&id)) {
+        (Some(old), Some(new)) => old.egress & new.forbidden != 0 && old.forbidden & new.egress != 0,
+        _ => false,
+    }
+}
+
+/// How long the answer would be if none were too big.
+fn whole_len(bridge: &Bridge, request: &Request) -> usize {
+    let answered = request.bindings.iter().map(|binding| match request.kind {
+        Kind::Get => bridge.get_binding(&binding.name),
+        _ => bridge.next_binding(&binding.name),
+    });
+    16 + answered.map(|binding| write_answer(0, 0, 0, &[binding]).len() - 16).sum::<usize>()
+}
