@@ -1,0 +1,219 @@
+#define _DEFAULT_SOURCE
+#include "agent.h"
+
+#include <arpa/inet.h>
+#include <netinet/in.h>
+#include <signal.h>
+#include <sys/prctl.h>
+#include <sys/socket.h>
+#include <sys/time.h>
+#include <sys/wait.h>
+#include <unistd.h>
+
+/* Tags of the basic encoding rules, as SNMP uses them. */
+enum {
+    BER_INTEGER = 0x02,
+    BER_STRING = 0x04,
+    BER_NULL = 0x05,
+    BER_NAME = 0x06,
+    BER_SEQUENCE = 0x30,
+    BER_GET = 0xA0,
+    BER_GET_NEXT = 0xA1,
+    BER_RESPONSE = 0xA2
+};
+
+/* A message is written from its end to its start, since a length stands before what it counts. */
+struct writer {
+    uint8_t octets[DATAGRAM_MAX];
+    size_t start;
+};
+
+static void put_before(struct writer *w, const void *octets, size_t length)
+{
+    REQUIRE(length <= w->start, "an SNMP request is too long");
+    w->start -= length;
+    memcpy(w->octets + w->start, octets, length);
+}
+
+static void put_octet_before(struct writer *w, uint8_t octet)
+{
+    put_before(w, &octet, 1);
+}
+
+/* The tag and length of all that was written since `end`. */
+static void put_header_before(struct writer *w, uint8_t tag, size_t end)
+{
+    size_t length = end - w->start;
+
+    put_octet_before(w, (uint8_t)length);
+    if (length > 255) {
+        put_octet_before(w, (uint8_t)(length >> 8));
+        put_octet_before(w, 0x82);
+    } else if (length > 127) {
+        put_octet_before(w, 0x81);
+    }
+    put_octet_before(w, tag);
+}
+
+static void put_integer_before(struct writer *w, uint8_t value)
+{
+    size_t end = w->start;
+
+    put_octet_before(w, value);
+    put_header_before(w, BER_INTEGER, end);
+}
+
+/* A binding of 1.3.6.1.2.1.11.OBJECT.0, or without the 0 for get-next. */
+static void put_counter_before(struct writer *w, uint8_t object, bool instance)
+{
+    const uint8_t name[] = {0x2B, 6, 1, 2, 1, 11, object, 0};
+    size_t end = w->start, name_end;
+
+    put_header_before(w, BER_NULL, end);
+    name_end = w->start;
+    put_before(w, name, sizeof name - (instance ? 0 : 1));
+    put_header_before(w, BER_NAME, name_end);
+    put_header_before(w, BER_SEQUENCE, end);
+}
+
+struct datagram snmp_request(enum rb_kind kind, unsigned bindings)
+{
+    static const uint8_t objects[RB_BINDINGS_MAX] = {1, 2, 3, 4, 5, 6, 8, 9, 10, 11, 12, 13, 14, 15, 16, 17};
+    static const char community[] = "public";
+    struct writer w = {.start = DATAGRAM_MAX};
+    struct datagram request;
+    size_t end = w.start;
+
+    for (unsigned i = bindings; i > 0; i--) {
+        put_counter_before(&w, objects[i - 1], kind == RB_GET);
+    }
+    put_header_before(&w, BER_SEQUENCE, end);
+    put_integer_before(&w, 0); /* index */
+    put_integer_before(&w, 0); /* status */
+    put_integer_before(&w, 1); /* request id */
+    put_header_before(&w, kind == RB_GET ? BER_GET : BER_GET_NEXT, end);
+    size_t community_end = w.start;
+    put_before(&w, community, sizeof community - 1);
+    put_header_before(&w, BER_STRING, community_end);
+    put_integer_before(&w, 1); /* version: SNMPv2c */
+    put_header_before(&w, BER_SEQUENCE, end);
+    request.length = end - w.start;
+    memcpy(request.octets, w.octets + w.start, request.length);
+    return request;
+}
+
+/* The octets of a tag and a length, by the length's first octet. */
+static size_t header_octets(const uint8_t *field)
+{
+    return field[1] < 0x80 ? 2 : 2 + (size_t)(field[1] & 0x7F);
+}
+
+bool snmp_answered(const struct datagram *answer)
+{
+    const uint8_t *version = answer->octets + header_octets(answer->octets);
+    const uint8_t *pdu = version + 11; /* three octets of version, eight of community */
+    const uint8_t *status;
+
+    if (answer->length < 32 || version > answer->octets + 4 || pdu[0] != BER_RESPONSE || header_octets(pdu) > 4) {
+        return false;
+    }
+    status = pdu + header_octets(pdu) + 3; /* after the request id, which has one octet */
+    return status[0] == BER_INTEGER && status[1] == 1 && status[2] == 0;
+}
+
+static struct sockaddr_in loopback(uint16_t port)
+{
+    struct sockaddr_in place = {.sin_family = AF_INET, .sin_port = htons(port)};
+
+    place.sin_addr.s_addr = htonl(INADDR_LOOPBACK);
+    return place;
+}
+
+struct agent connect_agent(pid_t process, uint16_t port)
+{
+    struct agent agent = {process, socket(AF_INET, SOCK_DGRAM, 0)};
+    struct sockaddr_in place = loopback(port);
+    struct timeval patience = {.tv_sec = 2};
+
+    REQUIRE(agent.socket >= 0, "no socket");
+    REQUIRE(setsockopt(agent.socket, SOL_SOCKET, SO_RCVTIMEO, &patience, sizeof patience) == 0, "no time limit");
+    REQUIRE(connect(agent.socket, (struct sockaddr *)&place, sizeof place) == 0, "no connection to port %u", port);
+    return agent;
+}
+
+bool round_trip(const struct agent *agent, const uint8_t *request, size_t length, struct datagram *answer)
+{
+    ssize_t got;
+
+    if (send(agent->socket, request, length, 0) != (ssize_t)length) {
+        return false;
+    }
+    got = recv(agent->socket, answer->octets, sizeof answer->octets, 0);
+    answer->length = got > 0 ? (size_t)got : 0;
+    return got > 0;
+}
+
+/* Answers for ever; the process is ended by its parent, or with it. */
+static void serve(int socket, const struct bridge *bridge)
+{
+    static uint8_t block[RB_BLOCK_SIZE], request[DATAGRAM_MAX], room[RB_MESSAGE_MAX];
+    struct sockaddr_in from;
+
+    memcpy(block, bridge->block, sizeof block);
+    for (;;) {
+        socklen_t from_len = sizeof from;
+        ssize_t got = recvfrom(socket, request, sizeof request, 0, (struct sockaddr *)&from, &from_len);
+        if (got < 0) {
+            continue;
+        }
+        rb_result result = rb_answer(block, sizeof block, request, (size_t)got, room, sizeof room);
+        if (sendto(socket, room, result.count, 0, (struct sockaddr *)&from, from_len) < 0) {
+            continue;
+        }
+    }
+}
+
+struct agent start_library_agent(const struct bridge *bridge)
+{
+    struct sockaddr_in place = loopback(0);
+    socklen_t place_len = sizeof place;
+    int listening = socket(AF_INET, SOCK_DGRAM, 0);
+    pid_t process;
+
+    REQUIRE(listening >= 0 && bind(listening, (struct sockaddr *)&place, sizeof place) == 0, "no socket to answer on");
+    REQUIRE(getsockname(listening, (struct sockaddr *)&place, &place_len) == 0, "no port");
+    fflush(NULL);
+    process = fork();
+    REQUIRE(process >= 0, "no process");
+    if (process == 0) {
+        prctl(PR_SET_PDEATHSIG, SIGKILL);
+        serve(listening, bridge);
+    }
+    close(listening);
+    return connect_agent(process, ntohs(place.sin_port));
+}
+
+void stop_library_agent(const struct agent *agent)
+{
+    close(agent->socket);
+    kill(agent->process, SIGKILL);
+    waitpid(agent->process, NULL, 0);
+}
+
+uint64_t processor_time(const struct agent *agent)
+{
+    char path[64];
+    unsigned long long time = 0;
+    FILE *file;
+
+    snprintf(path, sizeof path, "/proc/%d/schedstat", (int)agent->process);
+    file = fopen(path, "r");
+    if (file == NULL) {
+        return 0;
+    }
+    if (fscanf(file, "%llu", &time) != 1) {
+        time = 0;
+    }
+    fclose(file);
+    return time;
+}

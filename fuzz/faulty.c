@@ -1,0 +1,75 @@
+/* A library that breaks one promise, to show that the harness finds it. It is linked before the archive, with the
+ * linker's
+ * --wrap=rb_answer; FAULT is the number of the promise.
+ *
+ *   1 an octet behind the answer is written        5 the request is written
+ *   2 a refusal has a count                        6 a refusal writes the block
+ *   3 the block is not legal after a set           7 an octet behind the request is read
+ *   4 a get writes the block                       8 the answer depends on what the room held
+ *   9 a fault names no binding                    10 the number is none of 0 to 8 */
+#include <stdlib.h>
+
+#include "refbridge.h"
+
+enum { AT_KIND = 3, AT_STATUS = 14, AT_INDEX = 15, AT_DELETES = 4, AT_FREE = 22 };
+
+rb_result __real_rb_answer(uint8_t *block, size_t block_len, const uint8_t *request, size_t request_len, uint8_t *room,
+                           size_t room_len);
+rb_result __wrap_rb_answer(uint8_t *block, size_t block_len, const uint8_t *request, size_t request_len, uint8_t *room,
+                           size_t room_len);
+
+static int fault(void)
+{
+    const char *number = getenv("FAULT");
+
+    return number != NULL ? atoi(number) : 0;
+}
+
+static void break_answer(uint8_t *block, uint8_t *request, size_t request_len, uint8_t *room, rb_result *result)
+{
+    static volatile uint8_t read_beyond;
+
+    switch (fault()) {
+    case 1:
+        room[result->count] ^= result->count < RB_MESSAGE_MAX;
+        break;
+    case 3:
+        block[AT_FREE] = request[AT_KIND] == RB_SET && room[AT_STATUS] == 0;
+        break;
+    case 4:
+        block[AT_DELETES] ^= request[AT_KIND] != RB_SET;
+        break;
+    case 5:
+        request[request_len - 1] ^= 1;
+        break;
+    case 7:
+        read_beyond = request[request_len];
+        (void)read_beyond;
+        break;
+    case 9:
+        room[AT_INDEX] = room[AT_STATUS] > RB_TOO_BIG ? 0 : room[AT_INDEX];
+        break;
+    case 10:
+        result->number = result->count > 100 ? 9 : 0;
+        break;
+    }
+}
+
+rb_result __wrap_rb_answer(uint8_t *block, size_t block_len, const uint8_t *request, size_t request_len, uint8_t *room,
+                           size_t room_len)
+{
+    uint8_t held = room_len > 7 ? room[7] : 0;
+    rb_result result = __real_rb_answer(block, block_len, request, request_len, room, room_len);
+
+    if (result.number == RB_ANSWERED) {
+        break_answer(block, (uint8_t *)(uintptr_t)request, request_len, room, &result);
+        if (fault() == 8 && result.count > 40) {
+            room[result.count - 1] = held;
+        }
+    } else if (fault() == 2) {
+        result.count = 1;
+    } else if (fault() == 6 && result.number > RB_BLOCK_NOT_LEGAL) {
+        block[AT_DELETES] ^= 1;
+    }
+    return result;
+}

@@ -1,0 +1,67 @@
+#include "start.h"
+
+#include <string.h>
+
+#include "input.h"
+#include "refbridge.h"
+
+enum {
+    ROWS = 256,
+    AT_VLAN_COUNT = 8,
+    AT_STATIC_COUNT = 12,
+    AT_VLAN_ROWS = 6196,
+    VLAN_ROW = 60,
+    AT_STATIC_ROWS = 21556,
+    STATIC_ROW = 16
+};
+
+static void put(uint8_t *at, uint64_t value, unsigned octets)
+{
+    for (unsigned i = octets; i > 0; i--) {
+        at[i - 1] = (uint8_t)value;
+        value >>= 8;
+    }
+}
+
+static void put_vlan_row(uint8_t *row, uint32_t i, uint64_t all_ports)
+{
+    /* Sixteen names as long as can be do not fit into one answer. */
+    uint8_t name_length = i < 16 ? 32 : (uint8_t)(i % 33);
+
+    memset(row, 0, VLAN_ROW);
+    put(row, i + 1, 2);
+    row[2] = (uint8_t)(1 + i % 2);
+    row[3] = name_length;
+    memset(row + 4, 'a', name_length);
+    put(row + 36, all_ports & 0x8888888888888888u, 8);
+    put(row + 44, all_ports & 0x4444444444444444u, 8);
+    put(row + 52, all_ports, 8);
+}
+
+static void put_static_row(uint8_t *row, uint32_t i, uint64_t all_ports)
+{
+    memset(row, 0, STATIC_ROW);
+    row[0] = 2;
+    row[5] = (uint8_t)(i / 2);
+    row[6] = (uint8_t)(i % 2);
+    row[7] = (uint8_t)(3 + i % 3);
+    put(row + 8, all_ports, 8);
+}
+
+void start_bridge(uint8_t *block, uint8_t start)
+{
+    static const uint8_t address[RB_ADDRESS_SIZE] = {0x00, 0x11, 0x22, 0x33, 0x44, 0x55};
+    uint32_t ports = 1u + (start & START_PORTS);
+    uint64_t all_ports = UINT64_MAX << (64 - ports);
+
+    rb_setup(block, RB_BLOCK_SIZE, ports, address, sizeof address);
+    if ((start & START_FULL) == 0) {
+        return;
+    }
+    put(block + AT_VLAN_COUNT, ROWS, 4);
+    put(block + AT_STATIC_COUNT, ROWS, 4);
+    for (uint32_t i = 0; i < ROWS; i++) {
+        put_vlan_row(block + AT_VLAN_ROWS + VLAN_ROW * i, i, all_ports);
+        put_static_row(block + AT_STATIC_ROWS + STATIC_ROW * i, i, all_ports);
+    }
+}
