@@ -13,7 +13,7 @@ use Rattle.octets.specs.Numbers.{beAt}
 use Rattle.names.specs.Index.{firstFrom}
 use Rattle.names.proofs.InstanceLaws.{All, Rising}
 use Rattle.block.specs.Rows.{rowsAt}
-use Rattle.block.specs.Lookup.{findFrom, findKey, keysOf, lookup}
+use Rattle.block.specs.Lookup.{findFrom, findKey, Ascending, keysOf, lookup}
 use Rattle.block.specs.declared.rows.Place.{Place}
 use Rattle.block.specs.declared.rows.Place.the-variants.{At, Absent}
 use Rattle.block.proofs.RowLaws.{length-rowsAt, turn-rowsAt}
@@ -111,6 +111,13 @@ rising-le (k ∷ ks) r zero zero l h = omega arith
 rising-le (k ∷ ks) r zero (suc j) l h = omega (arith, all-at (λ q. k < q) 0 ks j (r .0) (le-of-suc-le-suc h))
 rising-le (k ∷ ks) r (suc i) zero l h = absurd (not-suc-le-zero l)
 rising-le (k ∷ ks) r (suc i) (suc j) l h = rising-le ks (r .1) i j (le-of-suc-le-suc l) (le-of-suc-le-suc h)
+
+-- ascending rows have ascending keys
+pub rising-ascends : (ks : List ℕ) → Rising ks → Ascending ks
+rising-ascends [] r i j l h = absurd (not-suc-le-zero h)
+rising-ascends (k ∷ ks) r i zero l h = absurd (not-suc-le-zero l)
+rising-ascends (k ∷ ks) r zero (suc j) l h = all-at (λ q. k < q) 0 ks j (r .0) (le-of-suc-le-suc h)
+rising-ascends (k ∷ ks) r (suc i) (suc j) l h = rising-ascends ks (r .1) i j (le-of-suc-le-suc l) (le-of-suc-le-suc h)
 
 -- a key that is not found stands nowhere among ascending keys
 pub find-absent : (k : ℕ) (ks : List ℕ) (i : ℕ) → Rising ks → findKey k ks ≡ Absent i

@@ -6,7 +6,7 @@ ghost use Rattle.octets.specs.Numbers.{beAt};
 ghost use Rattle.block.specs.Layout.{blockSize, manyCells};
 ghost use Rattle.block.specs.Rows.{rowsAt};
 ghost use Rattle.block.specs.Image.{contentOf};
-ghost use Rattle.block.specs.Lookup.{Sized, findKey, keysOf, activeVlans, noVlan, noStatic};
+ghost use Rattle.block.specs.Lookup.{Sized, findKey, Ascending, keysOf, activeVlans, noVlan, noStatic};
 use super::layout::AT_ADDRESS;
 use super::layout::AT_CELLS;
 use super::layout::AT_DELETES;
@@ -132,18 +132,18 @@ fn find(block: &[u8], at: usize, n: usize, width: usize, w: usize, key: u64) -> 
     Place::Absent(i)
 }
 
-// Where a VLAN id stands.
+// Where a VLAN id stands among ascending rows.
 pub fn find_vlan(block: &[u8], key: u64) -> Place
-    requires { ⌜ Sized (now block) ⌝ }
+    requires { ⌜ Sized (now block) × Ascending (keysOf (contentOf (now block) .vlans)) ⌝ }
     ensures { λ r. ⌜ r ≡ findKey key (keysOf (contentOf (now (block .entry)) .vlans)) ⌝ }
 {
     let n = vlan_count(block);
     find(block, AT_VLANS, n, VLAN_WIDTH, 2, key)
 }
 
-// Where a static row's key stands.
+// Where a static row's key stands among ascending rows.
 pub fn find_static(block: &[u8], key: u64) -> Place
-    requires { ⌜ Sized (now block) ⌝ }
+    requires { ⌜ Sized (now block) × Ascending (keysOf (contentOf (now block) .statics)) ⌝ }
     ensures { λ r. ⌜ r ≡ findKey key (keysOf (contentOf (now (block .entry)) .statics)) ⌝ }
 {
     let n = static_count(block);
