@@ -18,6 +18,8 @@ use std::process::ExitCode;
 
 const BRIDGES: usize = 4;
 const CASES: usize = 250;
+const MOST_BLOCK: usize = 40960;
+const MOST_ROOM: usize = 4096;
 
 /// One case file as it is written, and the block that its bridge has come to.
 struct Writer {
@@ -187,8 +189,14 @@ fn calls_of(step: &Step) -> usize {
     }
 }
 
+/// A case file holds only so long a request, block and room.
 fn fits(step: &Step) -> bool {
-    !matches!(step, Step::Call { request, .. } if request.len() > MOST_OCTETS)
+    match step {
+        Step::Call { request, block_len, room_len } => {
+            request.len() <= MOST_OCTETS && *block_len <= MOST_BLOCK && *room_len <= MOST_ROOM
+        }
+        _ => true,
+    }
 }
 
 /// The command of a case file that makes a request.
