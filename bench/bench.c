@@ -142,8 +142,8 @@ static void compare_answers(const struct bridge *bridge, const struct workload *
 
         for (size_t i = 0; i < IMPLEMENTATIONS; i++) {
             counts[i] = implementations[i].answer(of[i].bridge, request->at, request->count, rooms[i]);
-            REQUIRE(counts[i] >= HEAD_SIZE && rooms[i][STATUS_AT] == RB_NO_ERROR, "%s: %s: no answer, or a fault: %s", bridge->title,
-                    workload->title, implementations[i].title);
+            REQUIRE(counts[i] >= HEAD_SIZE && rooms[i][STATUS_AT] == RB_NO_ERROR, "%s: %s: no answer, or a fault: %s",
+                    bridge->title, workload->title, implementations[i].title);
             REQUIRE(counts[i] == counts[0] && memcmp(rooms[i], rooms[0], counts[0]) == 0, "%s: %s: %s differs",
                     bridge->title, workload->title, implementations[i].title);
         }

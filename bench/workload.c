@@ -89,8 +89,8 @@ static void play(struct bridge *bridge, const struct octets *request)
     uint8_t room[RB_MESSAGE_MAX];
     rb_result got = rb_answer(bridge->block, RB_BLOCK_SIZE, request->at, request->count, room, sizeof room);
 
-    REQUIRE(got.number == RB_ANSWERED && room[STATUS_AT] == RB_NO_ERROR, "%s: number %u, status %u, index %u", bridge->title,
-            got.number, room[STATUS_AT], room[INDEX_AT]);
+    REQUIRE(got.number == RB_ANSWERED && room[STATUS_AT] == RB_NO_ERROR, "%s: number %u, status %u, index %u",
+            bridge->title, got.number, room[STATUS_AT], room[INDEX_AT]);
 }
 
 /* A row with a name as long as can be, and one port in its Egress. */

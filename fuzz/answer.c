@@ -1,14 +1,14 @@
 /* Fuzzing of rb_answer: plays the steps of an input (input.h) and checks what must hold of every call.
  *
  *   - the number is 0 to 8; 1 and 2 come exactly where a length says so, 3 comes only where the block was changed or
- * has another length;
+ *     has another length; an offset comes with 4 to 8 alone;
  *   - a refusal has the count 0 and writes nothing; octets behind an answer, and the request, keep what they had;
  *   - the block changes only by a set without a fault, and is legal afterwards;
  *   - an answer is a response that goes with its request, and its values are some that the objects can have (reply.c);
  *   - the same call on other addresses, with other octets in the room, does the same.
  *
  * All octets that are lent stand against a page that must not be touched, at its end or at its start. The archive
- * itself is not instrumented: outcomes are counted here, and the mutator (mutate.c) knows fields and objects. */
+ * itself is not instrumented: outcomes are counted here, and the mutator (mutate.c) knows steps and fields. */
 #define _DEFAULT_SOURCE
 #include "answer.h"
 
@@ -118,6 +118,8 @@ static void play(const struct call *call, bool at_end, uint8_t fill, struct outc
     require(result.number < NUMBERS, "a number that is not 0 to 8");
     require(result.number == RB_ANSWERED || result.count == 0, "a refusal with a count");
     require(result.count <= call->room_len, "a count over the room's length");
+    require(result.offset == 0 || (result.number >= RB_FIELD_CUT && result.offset <= call->request.count),
+            "an offset that no refusal of the form has");
     require(all_are(room + result.count, call->room_len - result.count, fill), "octets behind the answer were written");
     outcome->result = result;
     memcpy(outcome->block, block, call->block_len);
@@ -193,6 +195,7 @@ static void play_request(struct call *call, uint8_t *own)
     numbers[one.result.number]++;
     outcomes[one.result.number]++;
     require(one.result.number == other.result.number && one.result.count == other.result.count &&
+                one.result.offset == other.result.offset &&
                 memcmp(one.room, other.room, one.result.count) == 0 &&
                 memcmp(one.block, other.block, call->block_len) == 0,
             "the same call did something else");

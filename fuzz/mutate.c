@@ -1,6 +1,6 @@
-/* The mutator: changes an input by its steps and by the fields of its requests, so that most lengths stay right and inputs
- * reach deep without coverage of the archive. It knows no object: names and values come from the seeds, and go from one
- * request to another. Some changes break the form on purpose. */
+/* The mutator: changes an input by its steps and by the fields of its requests, so that most lengths stay right and
+ * inputs reach deep without coverage of the archive. It knows no object: names and values come from the seeds, and go
+ * from one request to another. Some changes break the form on purpose. */
 #include <string.h>
 
 #include "answer.h"
@@ -14,7 +14,7 @@ size_t LLVMFuzzerMutate(uint8_t *octets, size_t length, size_t room);
 
 enum { BINDINGS = RB_BINDINGS_MAX + 1 }; /* one over what a request may have */
 
-/* A request taken apart, and those of the same input, from which bindings are taken. */
+/* A request taken apart, so that a part of it can be changed and all lengths are right again. */
 struct request {
     uint8_t kind;
     uint32_t id;

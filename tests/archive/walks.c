@@ -97,7 +97,7 @@ int main(void)
 
     for (size_t i = 0; i < sizeof sizes / sizeof sizes[0]; i++) {
         uint32_t n = sizes[i];
-        /* 13 scalars; 11 columns of ports and two of ports and priorities; 5 columns of VLAN rows and 4 of static rows */
+        /* 13 scalars; 11 columns of ports, two of ports and priorities; 5 columns of VLAN rows, 4 of static rows */
         unsigned fixed = 13 + 27 * n, fresh = fixed + 5, full = fixed + 5 * ROWS + 4 * ROWS;
 
         REQUIRE(rb_setup(block, sizeof block, n, address, sizeof address).number == RB_ANSWERED, "set-up of %u", n);
