@@ -7,6 +7,7 @@
 
 use refbridge_model::case_file::{hex, write_poke, MOST_OCTETS};
 use refbridge_model::generate::{scripts, start};
+use refbridge_model::library::Returned;
 use refbridge_model::model::calls;
 use refbridge_model::model::image::BLOCK;
 use refbridge_model::model::message::{read, Content, Kind, Request, LONGEST};
@@ -96,17 +97,18 @@ impl Writer {
     fn set_up(&mut self, ports: u32, address: &[u8]) {
         let octets: Vec<String> = address.iter().map(|octet| format!("{octet:02X}")).collect();
         self.case(format!("bridge {ports} {}", octets.join(":")));
-        match calls::set_up(&mut self.block, ports, address) {
-            (0, _) => self.expect("accepted".to_string()),
-            (refusal, _) => self.expect(format!("refused {refusal}")),
+        match calls::set_up(&mut self.block, ports, address).0 {
+            0 => self.expect("accepted".to_string()),
+            refusal => self.expect(format!("refused {refusal}")),
         }
     }
 
-    fn timer(&mut self, command: &str, number: u32, convert: fn(u32) -> (u32, u32)) {
+    fn timer(&mut self, command: &str, number: u32, convert: fn(u32) -> Returned) {
         self.case(format!("{command} {number}"));
-        match convert(number) {
-            (0, value) => self.expect(format!("value {value}")),
-            (refusal, _) => self.expect(format!("refused {refusal}")),
+        let returned = convert(number);
+        match returned.0 {
+            0 => self.expect(format!("value {}", returned.1)),
+            refusal => self.expect(format!("refused {refusal}")),
         }
     }
 
@@ -151,10 +153,11 @@ impl Writer {
         self.case(request.as_ref().map_or_else(|| format!("raw {}", hex(octets)), command));
         let (mut given, mut room) = (self.block.clone(), vec![0; room_len]);
         given.resize(block_len, 0);
-        match (calls::answer(&mut given, octets, &mut room), &request) {
-            ((0, _), Some(request)) => self.expect_answer(request, room[14], room[15]),
-            ((0, count), None) => self.expect(format!("octets {}", hex(&room[..count as usize]))),
-            ((refusal, _), _) => self.expect(format!("refused {refusal}")),
+        let returned = calls::answer(&mut given, octets, &mut room);
+        match (returned.0, &request) {
+            (0, Some(request)) => self.expect_answer(request, room[14], room[15]),
+            (0, None) => self.expect(format!("octets {}", hex(&room[..returned.1 as usize]))),
+            (refusal, _) => self.expect(format!("refused {refusal}")),
         }
         if block_len == BLOCK {
             self.block = given;
