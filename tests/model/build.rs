@@ -16,6 +16,7 @@ fn main() {
     if env::var("CARGO_FEATURE_MUTANTS").is_ok() {
         println!("cargo:rerun-if-changed=mutants");
         println!("cargo:rerun-if-changed=src/model");
+        println!("cargo:rerun-if-env-changed=REFBRIDGE_FAULTS");
         make_mutants(Path::new(&env::var("OUT_DIR").unwrap()));
     }
 }
@@ -38,6 +39,14 @@ fn read_edit(path: &Path) -> Edit {
     Edit { what, file, old: old.to_string(), new: new.to_string() }
 }
 
+/// Which edits are made: REFBRIDGE_FAULTS is "K/N" for every Nth from the Kth on, and all of them where it is not set.
+fn chosen(at: usize) -> bool {
+    let Ok(share) = env::var("REFBRIDGE_FAULTS") else { return true };
+    let (first, of) = share.split_once('/').expect("K/N");
+    let (first, of): (usize, usize) = (first.parse().unwrap(), of.parse().unwrap());
+    at % of == first - 1
+}
+
 fn make_mutants(out: &Path) {
     let mut edits: Vec<PathBuf> = fs::read_dir("mutants").unwrap().map(|entry| entry.unwrap().path()).collect();
     edits.sort();
@@ -45,27 +54,37 @@ fn make_mutants(out: &Path) {
     let mut table = String::from("pub const MUTANTS: &[(&str, Library)] = &[\n");
     for (at, path) in edits.iter().enumerate() {
         let edit = read_edit(path);
+        stands_once(&edit, path);
+        if !chosen(at) {
+            continue;
+        }
         let module = format!("mutant_{}", at + 1);
         let folder = out.join(&module);
-        copy_changed(&edit, &folder, path);
+        copy_changed(&edit, &folder);
         let root = folder.join("mod.rs");
         modules += &format!("#[allow(dead_code, unused)]\n#[path = {root:?}]\nmod {module};\n");
         let calls =
             ["set_up", "answer", "to_256ths", "to_hundredths"].map(|call| format!("{call}: {module}::calls::{call}"));
-        table += &format!("    ({:?}, Library {{ {} }}),\n", edit.what, calls.join(", "));
+        let what = format!("{}: {}", path.file_stem().unwrap().to_str().unwrap(), edit.what);
+        table += &format!("    ({what:?}, Library {{ {} }}),\n", calls.join(", "));
     }
     fs::write(out.join("mutants.rs"), format!("{modules}{table}];\n")).unwrap();
 }
 
-fn copy_changed(edit: &Edit, folder: &Path, path: &Path) {
+/// An edit that no longer fits the model stops the build, whether it is chosen or not.
+fn stands_once(edit: &Edit, path: &Path) {
+    let text = fs::read_to_string(Path::new("src/model").join(&edit.file)).unwrap();
+    let found = text.matches(&edit.old).count();
+    assert_eq!(found, 1, "{}: its old text stands {found} times in {}", path.display(), edit.file);
+}
+
+fn copy_changed(edit: &Edit, folder: &Path) {
     fs::create_dir_all(folder).unwrap();
     for entry in fs::read_dir("src/model").unwrap() {
         let source = entry.unwrap().path();
         let name = source.file_name().unwrap().to_str().unwrap();
         let mut text = fs::read_to_string(&source).unwrap();
         if name == edit.file {
-            let found = text.matches(&edit.old).count();
-            assert_eq!(found, 1, "{}: its old text stands {found} times in {name}", path.display());
             text = text.replacen(&edit.old, &edit.new, 1);
         }
         fs::write(folder.join(name), text).unwrap();

@@ -22,7 +22,8 @@ const USAGE: &str = "usage: differential [--seed N] [--histories N] [--seconds N
 
 struct Options {
     seed: u64,
-    histories: u64,
+    /// As many are played as the time allows where no number is asked for; otherwise fewer are a failure.
+    histories: Option<u64>,
     seconds: u64,
     mutant: Option<usize>,
     all_mutants: bool,
@@ -66,7 +67,7 @@ fn main() -> ExitCode {
 }
 
 fn read_options() -> Option<Options> {
-    let mut options = Options { seed: 1, histories: u64::MAX, seconds: 60, mutant: None, all_mutants: false };
+    let mut options = Options { seed: 1, histories: None, seconds: 60, mutant: None, all_mutants: false };
     let mut words = std::env::args().skip(1);
     while let Some(word) = words.next() {
         if word == "--mutants" {
@@ -76,7 +77,7 @@ fn read_options() -> Option<Options> {
         let number: u64 = words.next()?.parse().ok()?;
         match word.as_str() {
             "--seed" => options.seed = number,
-            "--histories" => options.histories = number,
+            "--histories" => options.histories = Some(number),
             "--seconds" => options.seconds = number,
             "--mutant" => options.mutant = usize::try_from(number).ok(),
             _ => return None,
@@ -98,8 +99,12 @@ fn run_once(library: Library, options: &Options) -> ExitCode {
             for what in &missing {
                 println!("never met: {what}");
             }
+            let wanted = options.histories.unwrap_or(histories);
+            if histories < wanted {
+                println!("{histories} histories of {wanted} in {} seconds", options.seconds);
+            }
             println!("{histories} histories, {} calls, 0 differences", tally.calls);
-            if missing.is_empty() {
+            if missing.is_empty() && histories == wanted {
                 ExitCode::SUCCESS
             } else {
                 ExitCode::FAILURE
@@ -111,22 +116,19 @@ fn run_once(library: Library, options: &Options) -> ExitCode {
 /// Every mutant must be told from the model.
 fn run_mutants(options: &Options) -> ExitCode {
     let mut missed = 0;
-    for (at, (what, library)) in MUTANTS.iter().enumerate() {
+    for (what, library) in MUTANTS {
         let mut tally = Tally::default();
         match run(*library, options, &mut tally) {
             Outcome::Differs { histories, difference, .. } => {
-                println!(
-                    "mutant {} ({what}): found in history {histories}, call {}: {difference}",
-                    at + 1,
-                    tally.calls
-                );
+                println!("{what}: found in history {histories}, call {}: {difference}", tally.calls);
             }
             Outcome::Same { histories } => {
                 missed += 1;
-                println!("mutant {} ({what}): NOT FOUND in {histories} histories", at + 1);
+                println!("{what}: NOT FOUND in {histories} histories");
             }
         }
     }
+    println!("counted: {} seeded faults found", MUTANTS.len() - missed);
     println!("{} mutants, {missed} not found", MUTANTS.len());
     if missed == 0 && !MUTANTS.is_empty() {
         ExitCode::SUCCESS
@@ -148,7 +150,7 @@ fn run(library: Library, options: &Options, tally: &mut Tally) -> Outcome {
     };
     let until = Instant::now() + Duration::from_secs(options.seconds);
     let mut histories = 0;
-    while histories < options.histories && Instant::now() < until {
+    while histories < options.histories.unwrap_or(u64::MAX) && Instant::now() < until {
         let seed = options.seed + histories;
         histories += 1;
         if let Err(failed) = one_history(library, seed, tally) {
