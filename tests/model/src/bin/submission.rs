@@ -22,9 +22,11 @@ const CASES: usize = 250;
 const MOST_BLOCK: usize = 40960;
 const MOST_ROOM: usize = 4096;
 
-/// One case file as it is written, and the block that its bridge has come to.
+/// One case file as it is written, and the block that its bridge has come to. The prelude is what the next case is given
+/// first: octets of the block, lengths of block and room.
 struct Writer {
     lines: Vec<String>,
+    prelude: Vec<String>,
     cases: usize,
     block: Vec<u8>,
 }
@@ -44,7 +46,7 @@ fn main() -> ExitCode {
 }
 
 fn write_file(random: &mut Random) -> String {
-    let mut writer = Writer { lines: Vec::new(), cases: 0, block: vec![0; BLOCK] };
+    let mut writer = Writer { lines: Vec::new(), prelude: Vec::new(), cases: 0, block: vec![0; BLOCK] };
     for bridge in 0..BRIDGES {
         writer.write_bridge(random, bridge + 1 == BRIDGES);
     }
@@ -86,6 +88,7 @@ impl Writer {
     }
 
     fn case(&mut self, command: String) {
+        self.lines.append(&mut self.prelude);
         self.lines.push(command);
         self.cases += 1;
     }
@@ -131,7 +134,7 @@ impl Writer {
             match step {
                 Step::Poke { offset, octets } => {
                     self.block[*offset..offset + octets.len()].copy_from_slice(octets);
-                    write_poke(&mut self.lines, *offset, octets);
+                    write_poke(&mut self.prelude, *offset, octets);
                 }
                 Step::Call { request, block_len, room_len } => self.call(request, *block_len, *room_len),
                 Step::Pair { first, second, room_lens } => {
@@ -144,10 +147,10 @@ impl Writer {
 
     fn call(&mut self, octets: &[u8], block_len: usize, room_len: usize) {
         if block_len != BLOCK {
-            self.lines.push(format!("size {block_len}"));
+            self.prelude.push(format!("size {block_len}"));
         }
         if room_len != LONGEST {
-            self.lines.push(format!("room {room_len}"));
+            self.prelude.push(format!("room {room_len}"));
         }
         let request = read(octets).ok().filter(|request| !request.bindings.is_empty());
         self.case(request.as_ref().map_or_else(|| format!("raw {}", hex(octets)), command));
