@@ -66,7 +66,8 @@ fn not_startable(event: u32, runs: bool, state: u32) -> bool
 fn none_running(event: u32, runs: bool, state: u32) -> bool
     ensures { λ r. ⌜ r ≡ noneRunning event runs state ⌝ }
 {
-    ((EVENT_PASS <= event) & (event <= EVENT_CRASH)) & (!runs | ((event <= EVENT_FAIL) & !(state == STATE_RUNNING)))
+    ((EVENT_PASS <= event) & (event <= EVENT_CRASH))
+        & (!runs | ((event <= EVENT_FAIL) & !(state == STATE_RUNNING)))
 }
 
 // The number, judged 15, 14, 11, 12, 13.

@@ -76,7 +76,8 @@ fn first_state(seen: bool, before: u32, state: u32) -> u32
 fn sound_at(last: u32, runs: bool, at: usize, id: u32, state: u32) -> bool
     ensures { λ r. ⌜ r ≡ soundAt last runs at id state ⌝ }
 {
-    ((at < MOST_CASES) & ((at == 0) | (last < id))) & ((state <= STATE_BROKEN) & !(runs & (state == STATE_RUNNING)))
+    ((at < MOST_CASES) & ((at == 0) | (last < id)))
+        & ((state <= STATE_BROKEN) & !(runs & (state == STATE_RUNNING)))
 }
 
 pub fn step(s: Scan, sought: u32, at: usize, id: u32, state: u32) -> Scan
