@@ -90,10 +90,12 @@ enum rb_state { RB_NOT_RUN = 0, RB_RUNNING = 1, RB_PASSED = 2, RB_FAILED = 3, RB
 /* Events of a run. Start, pass and fail name a case; the id beside crash and end is not looked at. */
 enum rb_event { RB_START = 1, RB_PASS = 2, RB_FAIL = 3, RB_CRASH = 4, RB_END = 5 };
 
-/* What a call returns: one of rb_number, and a count that is 0 unless the number is 0. */
+/* What a call returns: one of rb_number, a count that is 0 unless the number is 0, and an offset that is 0 unless the number is 4 to 8: then it tells where in
+ * the request the field's tag octet is or would be, or the first octet that is left over behind a binding's two fields. */
 typedef struct {
     uint32_t number;
     uint32_t count;
+    uint32_t offset;
 } rb_result;
 
 /* A case of a run: its id, and one of rb_state. */
@@ -125,7 +127,7 @@ rb_result rb_to_hundredths(uint32_t ticks);
 
 /* Feeds one event to a run: `cases` is its list, at most RB_CASES_MAX records with ids strictly ascending, and `ended` its mark, 0 or 1. A new run has
  * all states RB_NOT_RUN and the mark 0. An accepted event changes the state of one case at most; an accepted end sets the mark. Returns 0 or 11 to 15,
- * judged 15, 14, 11, 12, 13; the count is 0. */
+ * judged 15, 14, 11, 12, 13; count and offset are 0. */
 rb_result rb_tally_event(rb_case *cases, size_t count, uint8_t *ended, uint32_t event, uint32_t id);
 
 /* Counts the classes of a run, ended or not. Returns 0 or 15. */

@@ -11,11 +11,12 @@ use tally::put_state;
 use tally::scan;
 
 fn event_result(p: Plan) -> RbResult
-    ensures { λ r. ⌜ r ≡ record { number = p .number; count = 0 } ⌝ }
+    ensures { λ r. ⌜ r ≡ record { number = p .number; count = 0; offset = 0 } ⌝ }
 {
     RbResult {
         number: p.number,
         count: 0,
+        offset: 0,
     }
 }
 
@@ -27,7 +28,7 @@ pub extern "C" fn rb_tally_event(
     event: u32,
     id: u32,
 ) -> RbResult
-    ensures { λ r. ⌜ (r .number ≡ feed (now (cases .entry)) (now (ended .entry)) event id .number) × (r .count ≡ 0)
+    ensures { λ r. ⌜ (r .number ≡ feed (now (cases .entry)) (now (ended .entry)) event id .number) × (r .count ≡ 0) × (r .offset ≡ 0)
         × (now (cases .exit) ≡ feed (now (cases .entry)) (now (ended .entry)) event id .cases)
         × (now (ended .exit) ≡ feed (now (cases .entry)) (now (ended .entry)) event id .mark) ⌝ }
 {

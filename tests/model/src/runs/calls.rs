@@ -28,6 +28,7 @@ mod archive {
     struct Result {
         number: u32,
         count: u32,
+        offset: u32,
     }
 
     #[repr(C)]
@@ -50,7 +51,7 @@ mod archive {
     // The slice is valid for its length, and the mark does not stand in it: that is all the header asks.
     fn event(cases: &mut [Case], mark: &mut u8, event: u32, id: u32) -> [u32; 3] {
         let result = unsafe { rb_tally_event(cases.as_mut_ptr(), cases.len(), mark, event, id) };
-        [result.number, result.count, 0]
+        [result.number, result.count, result.offset]
     }
 
     fn report(cases: &[Case], mark: u8) -> Report {

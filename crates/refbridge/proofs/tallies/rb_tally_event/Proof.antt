@@ -89,8 +89,8 @@ module _ {M : Type 1} (𝓤 : URA M) (H : Heap 𝓤) (A : Atoms 𝓤) (mem : Mem
   abbrev ResultC : Contract 𝓤
   ResultC = tripleOf 𝓤 H A event-result.signature (event-result.spec 𝓤 H A mem run)
 
-  result-said : (p : Plan) (r : RbResult) → ent 𝓤 (ensured 𝓤 H A event-result.ended (event-result.clauses 𝓤 H A mem run) tt (p, tt) tt r) (fact 𝓤 (r ≡ record { number = p .number; count = 0 }))
-  result-said p r = exE 𝓤 _ (λ ws. snd∗ 𝓤 (sem 𝓤 H A (lasts event-result.ended tt (p, tt) ws)) (fact 𝓤 (r ≡ record { number = p .number; count = 0 })))
+  result-said : (p : Plan) (r : RbResult) → ent 𝓤 (ensured 𝓤 H A event-result.ended (event-result.clauses 𝓤 H A mem run) tt (p, tt) tt r) (fact 𝓤 (r ≡ record { number = p .number; count = 0; offset = 0 }))
+  result-said p r = exE 𝓤 _ (λ ws. snd∗ 𝓤 (sem 𝓤 H A (lasts event-result.ended tt (p, tt) ws)) (fact 𝓤 (r ≡ record { number = p .number; count = 0; offset = 0 })))
 
 module _ {M : Type 1} (𝓤 : URA M) (H : Heap 𝓤) (A : Atoms 𝓤) (W : Given 𝓤 H A) (mem : Memory → SProp 𝓤) (run : Routine → Fun 𝓤) (κ κ′ : Lft) (q q′ : Share) (b o : ℕ) (γ : GName) (ys : List RbCase) (b′ o′ : ℕ) (γ′ : GName) (m event id : ℕ)
     (event-fits : event < 2 ^ 32) (id-fits : id < 2 ^ 32) (room : Room R (length ys)) where
@@ -124,7 +124,7 @@ module _ {M : Type 1} (𝓤 : URA M) (H : Heap 𝓤) (A : Atoms 𝓤) (W : Given
   p = planOf z m event
 
   abbrev Said : RbResult → List RbCase → ℕ → Type 0
-  Said r zs m′ = (r .number ≡ feed ys m event id .number) × (r .count ≡ 0) × (zs ≡ feed ys m event id .cases) × (m′ ≡ feed ys m event id .mark)
+  Said r zs m′ = (r .number ≡ feed ys m event id .number) × (r .count ≡ 0) × (r .offset ≡ 0) × (zs ≡ feed ys m event id .cases) × (m′ ≡ feed ys m event id .mark)
 
   exits : (r : RbResult) (w : Val) (zs : List RbCase) (m′ : ℕ) → Said r zs m′ → length zs ≡ length ys
       → ent 𝓤 (⋆ 𝓤 H A (‵ (flft κ q) ∷ ‵ (flft κ′ q′) ∷ ‵ (finally R γ zs) ∷ ‵ (fres γ′ (u8 .coded .code m′)) ∷ ‵ (Q.the-row .own r (w ∷ [])) ∷ [])) (Post w)
@@ -223,7 +223,7 @@ module _ {M : Type 1} (𝓤 : URA M) (H : Heap 𝓤) (A : Atoms 𝓤) (W : Given
         use0 W (raw (ResultC 𝓤 H A mem run .pre to-result)) (goes-result is-p) $
         calls-at ! fm (ResultC 𝓤 H A mem run) known-result to-result (and-then ! (load ! (from ! (stop !)) (look ! 20 refl)) (no-more !)) (λ k.
         use1 W (later (some (λ (r : RbResult). (‵ ftrue ⊛ ‵ (Q.the-row .own r (k ∷ []))) ⊛ raw (ensured 𝓤 H A event-result.ended (event-result.clauses 𝓤 H A mem run) tt (p, tt) tt r)))) (id⊢ 𝓤 _) $ await ! tt $ pick ! (λ r₄.
-        split ! $ move ! (1 ∷ []) $ use1 W (raw (fact 𝓤 (r₄ ≡ record { number = p .number; count = 0 }))) (result-said 𝓤 H A mem run p r₄) $ heard ! (r₄ ≡ record { number = p .number; count = 0 }) (λ e₄.
+        split ! $ move ! (1 ∷ []) $ use1 W (raw (fact 𝓤 (r₄ ≡ record { number = p .number; count = 0; offset = 0 }))) (result-said 𝓤 H A mem run p r₄) $ heard ! (r₄ ≡ record { number = p .number; count = 0; offset = 0 }) (λ e₄.
         split ! $ drop ! $ peeks ! Q.the-row (Is Q.the-row) (shows 𝓤 H A Q.the-row) r₄ (k ∷ []) (λ is-k.
         -- [the result; cases' token; its last list; true; ended's token; its last value; true; true; _12; …]
         land ! (from ! (stop !)) (init ! 32 refl (LL.lawful Q.the-type Q′.the-laws 𝓤 H A W .typed r₄ (k ∷ []) is-k .0)) $
@@ -231,7 +231,7 @@ module _ {M : Type 1} (𝓤 : URA M) (H : Heap 𝓤) (A : Atoms 𝓤) (W : Given
         move ! (32 ∷ 33 ∷ []) $ free1 ! $ move ! (30 ∷ 31 ∷ []) $ free1 ! $ move ! (28 ∷ 29 ∷ []) $ free1 ! $ move ! (26 ∷ 27 ∷ []) $ free1 ! $ move ! (24 ∷ 25 ∷ []) $ free1 ! $ move ! (22 ∷ 23 ∷ []) $ free1 ! $ move ! (20 ∷ 21 ∷ []) $ free1 ! $
         move ! (18 ∷ 19 ∷ []) $ free1 ! $ move ! (16 ∷ 17 ∷ []) $ free1 ! $ move ! (14 ∷ 15 ∷ []) $ free1 ! $ move ! (12 ∷ 13 ∷ []) $ free1 ! $ move ! (10 ∷ 11 ∷ []) $ free1 ! $ move ! (8 ∷ 9 ∷ []) $ free1 ! $ free0 ! $
         move ! (1 ∷ []) $ split ! $ move ! (5 ∷ []) $ split ! $ keep ! (2 ∷ 0 ∷ 5 ∷ 7 ∷ 4 ∷ []) $
-        by ! (exits r₄ k (zs .0) (ws .0) (ap (λ (r : RbResult). r .number) e₄ ∙ number-so ys m event id, ap (λ (r : RbResult). r .count) e₄, e₃ ∙ cases-so ys m event id, e₂ .1 ∙ mark-so ys m event id) l))))))))))))))))))))))))))))))))))))
+        by ! (exits r₄ k (zs .0) (ws .0) (ap (λ (r : RbResult). r .number) e₄ ∙ number-so ys m event id, ap (λ (r : RbResult). r .count) e₄, ap (λ (r : RbResult). r .offset) e₄, e₃ ∙ cases-so ys m event id, e₂ .1 ∙ mark-so ys m event id) l))))))))))))))))))))))))))))))))))))
 
 module _ {M : Type 1} (𝓤 : URA M) (H : Heap 𝓤) (A : Atoms 𝓤) (W : Given 𝓤 H A) (mem : Memory → SProp 𝓤) (run : Routine → Fun 𝓤) (𝓣 : Tables 𝓤 H) (known-scan : Triple 𝓤 (𝓣 .C #scan) (ScanC 𝓤 H A mem run))
     (known-decide : Triple 𝓤 (𝓣 .C #decide) (DecideC 𝓤 H A mem run)) (known-put : Triple 𝓤 (𝓣 .C #put-state) (PutC 𝓤 H A mem run)) (known-result : Triple 𝓤 (𝓣 .C #event-result) (ResultC 𝓤 H A mem run)) where
