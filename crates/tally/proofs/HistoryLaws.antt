@@ -8,7 +8,7 @@ use lib.Dec.{eqb, leb}
 use lib.ListN.{length-map}
 use borrow.Author.Tests.{eqb-true, eqb-false, eq-eqb, ne-eqb, leb-true, le-leb, not-false}
 use Rattle.tally.specs.declared.RbCase.{RbCase}
-use Rattle.tally.specs.Codes.{stateNotRun, stateRunning, stateBroken, eventStart, eventPass, eventFail, eventCrash, eventEnd, markClear, accepted}
+use Rattle.tally.specs.Codes.{stateNotRun, stateRunning, stateBroken, eventStart, eventPass, eventFail, eventCrash, eventEnd, markClear}
 use Rattle.tally.specs.Run.{countIf, someIf, allIf, hasId, running, known, above, ascending, legalCases, markFits, legal, unknown, notStartable, noneRunning, stateOf, stateAfter, changed, became, markAfter}
 use Rattle.tally.specs.History.{Event, names, closedBy, told, toldFrom, asToldFrom}
 use Rattle.tally.proofs.TestLaws.{by-bool, and-left, and-right, not-both-ways}
@@ -111,10 +111,10 @@ runner-named id (c ∷ cs) h l e =
     (λ s. more (λ g. not-both-ways g s) (runner-named id cs (rw s at h) (rw t at l) (rw t at e))))
 
 -- ---- what an event says of one case, against what it does to it
-pub by-kind : (P : ℕ → Type 0) → P 2 → P 3 → P 4 → P 5 → (event : ℕ) → eqb event eventStart ≡ false → eventStart ≤ event → event ≤ eventEnd → P event
+pub by-kind : (P : ℕ → Type 0) → P eventPass → P eventFail → P eventCrash → P eventEnd → (event : ℕ) → eqb event eventStart ≡ false → eventStart ≤ event → event ≤ eventEnd → P event
 by-kind P a b c d event n l h =
-    by-bool (eqb event 2) (λ t. rw (eqb-true event 2 t) a) (λ t₂. by-bool (eqb event 3) (λ t. rw (eqb-true event 3 t) b) (λ t₃. by-bool (eqb event 4) (λ t. rw (eqb-true event 4 t) c) (λ t₄.
-    let e : event ≡ 5 = omega (arith, eqb-false event eventStart n, eqb-false event 2 t₂, eqb-false event 3 t₃, eqb-false event 4 t₄) in rw e d)))
+    by-bool (eqb event eventPass) (λ t. rw (eqb-true event eventPass t) a) (λ t₂. by-bool (eqb event eventFail) (λ t. rw (eqb-true event eventFail t) b) (λ t₃. by-bool (eqb event eventCrash) (λ t. rw (eqb-true event eventCrash t) c) (λ t₄.
+    let e : event ≡ eventEnd = omega (arith, eqb-false event eventStart n, eqb-false event eventPass t₂, eqb-false event eventFail t₃, eqb-false event eventCrash t₄) in rw e d)))
 
 -- an event that is no start of it says nothing of a case that does not run
 told-kept : (e : Event) (es : List Event) (c : RbCase) → running c ≡ false → names eventStart (c .id) e ≡ false → toldFrom (c .state) (c .id) (e ∷ es) ≡ toldFrom (c .state) (c .id) es
@@ -134,7 +134,7 @@ told-start id es c f =
 Closes : ℕ → ℕ → List Event → ℕ → Type 0
 Closes id k es event = (leb event eventFail ≡ true → k ≡ id) → toldFrom (stateAfter event) k es ≡ closedBy k (record { kind = event; id = id } ∷ es)
 
-closes-each : (id k : ℕ) (es : List Event) → Closes id k es 2 × Closes id k es 3 × Closes id k es 4 × Closes id k es 5
+closes-each : (id k : ℕ) (es : List Event) → Closes id k es eventPass × Closes id k es eventFail × Closes id k es eventCrash × Closes id k es eventEnd
 unfolding Closes toldFrom stateAfter closedBy
 closes-each id k es = (λ f. rw (eq-eqb id k (sym (f refl))), λ f. rw (eq-eqb id k (sym (f refl))), λ f. refl, λ f. refl)
 

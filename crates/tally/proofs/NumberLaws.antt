@@ -7,7 +7,7 @@ use mathlib.Core.List.{List}
 use lib.Dec.{eqb, leb}
 use borrow.Author.Tests.{eqb-true, leb-false, ne-eqb, not-false}
 use Rattle.tally.specs.declared.RbCase.{RbCase}
-use Rattle.tally.specs.Codes.{eventStart, eventFail, markSet}
+use Rattle.tally.specs.Codes.{eventStart, eventFail, markSet, refusedUnknown, refusedStart, refusedVerdict, refusedEnded, refusedRun}
 use Rattle.tally.specs.Run.{someIf, hasId, running, legal, judged, unknown, notStartable, noneRunning, stateOf, number}
 use Rattle.tally.proofs.TestLaws.{by-bool}
 
@@ -16,7 +16,7 @@ unlisted : (ok : Bool) (m event : ℕ) (runs : Bool) (a b : ℕ) → judged ok m
 unfolding judged unknown notStartable noneRunning
 unlisted ok m event runs a b =
     by-bool (leb event eventFail) (λ t. rw (t, or-true))
-    (λ t. let l = leb-false event 3 t in let n : eqb event eventStart ≡ false = ne-eqb event eventStart (λ e. omega (arith, l, e)) in rw (t, n))
+    (λ t. let l = leb-false event eventFail t in let n : eqb event eventStart ≡ false = ne-eqb event eventStart (λ e. omega (arith, l, e)) in rw (t, n))
 
 pub judged-same : (ok : Bool) (m event : ℕ) (listed runs : Bool) (a b : ℕ) → (listed ≡ true → a ≡ b) → judged ok m event listed runs a ≡ judged ok m event listed runs b
 judged-same ok m event true runs a b e = rw (e refl)
@@ -37,11 +37,11 @@ passes false k x h e = (refl, e)
 pub accepted : (ok : Bool) (m event : ℕ) (listed runs : Bool) (state : ℕ) → judged ok m event listed runs state ≡ 0 → Accepted ok m event listed runs state
 unfolding judged
 accepted ok m event listed runs state e =
-    let a = passes (not ok) 15 _ (omega arith) e in
-    let b = passes (eqb m markSet) 14 _ (omega arith) (a .1) in
-    let c = passes (unknown event listed) 11 _ (omega arith) (b .1) in
-    let d = passes (notStartable event runs state) 12 _ (omega arith) (c .1) in
-    let f = passes (noneRunning event runs state) 13 _ (omega arith) (d .1) in
+    let a = passes (not ok) refusedRun _ (omega arith) e in
+    let b = passes (eqb m markSet) refusedEnded _ (omega arith) (a .1) in
+    let c = passes (unknown event listed) refusedUnknown _ (omega arith) (b .1) in
+    let d = passes (notStartable event runs state) refusedStart _ (omega arith) (c .1) in
+    let f = passes (noneRunning event runs state) refusedVerdict _ (omega arith) (d .1) in
     record { is-legal = not-false ok (a .0); unended = b .0; is-known = c .0; startable = d .0; one-runs = f .0 }
 
 -- a start names a listed case

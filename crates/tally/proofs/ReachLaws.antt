@@ -8,7 +8,7 @@ use lib.Dec.{eqb, leb}
 use lib.ListN.{length, length-map}
 use borrow.Author.Tests.{eqb-true, eqb-false, eq-eqb, ne-eqb, leb-true, leb-false, le-leb, not-true, not-false}
 use Rattle.tally.specs.declared.RbCase.{RbCase}
-use Rattle.tally.specs.Codes.{mostCases, stateNotRun, stateRunning, stateBroken, eventStart, eventCrash, eventEnd, markClear, markSet, accepted}
+use Rattle.tally.specs.Codes.{mostCases, stateNotRun, stateRunning, stateFailed, stateBroken, eventStart, eventCrash, eventEnd, markClear, markSet, accepted}
 use Rattle.tally.specs.Run.{countIf, someIf, allIf, hasId, running, known, isNotRun, ascending, legalCases, markFits, legal, judged, unknown, notStartable, noneRunning, stateOf, number, stateAfter, restated, changed, became, markAfter}
 use Rattle.tally.specs.History.{Run, Event, fed, after, newRun}
 use Rattle.tally.proofs.TestLaws.{by-bool, and-left, and-right, not-both-ways}
@@ -90,15 +90,15 @@ pick p (c ∷ cs) u e =
     smaller k = by-bool (hasId k c) (λ s. omega (arith, rw s at (u k))) (λ s. rw s at (u k))
 
 -- ---- accepted events
-judged-start : judged true 0 1 true false 0 ≡ 0
+judged-start : judged true markClear eventStart true false stateNotRun ≡ accepted
 unfolding judged unknown notStartable noneRunning
 judged-start = refl
 
-judged-close : (event : ℕ) → eqb event eventStart ≡ false → eventStart ≤ event → event ≤ eventEnd → judged true 0 event true true 1 ≡ 0
+judged-close : (event : ℕ) → eqb event eventStart ≡ false → eventStart ≤ event → event ≤ eventEnd → judged true markClear event true true stateRunning ≡ accepted
 unfolding judged unknown notStartable noneRunning
-judged-close = by-kind (λ event. judged true 0 event true true 1 ≡ 0) refl refl refl refl
+judged-close = by-kind (λ event. judged true markClear event true true stateRunning ≡ accepted) refl refl refl refl
 
-judged-end : (listed runs : Bool) (state : ℕ) → judged true 0 5 listed runs state ≡ 0
+judged-end : (listed runs : Bool) (state : ℕ) → judged true markClear eventEnd listed runs state ≡ accepted
 unfolding judged unknown notStartable noneRunning
 judged-end listed runs state = refl
 
@@ -121,7 +121,7 @@ module _ (cs : List RbCase) (ok : legal cs 0 ≡ true) where
 
   end-fed : someIf running cs ≡ false → fed now (record { kind = eventEnd; id = 0 }) ≡ record { cases = cs; mark = markSet }
   unfolding number became stateAfter markAfter
-  end-fed n = rw (ok, judged-end (someIf (hasId 0) cs) (someIf running cs) (stateOf 0 cs), change-none running 4 cs n)
+  end-fed n = rw (ok, judged-end (someIf (hasId 0) cs) (someIf running cs) (stateOf 0 cs), change-none running stateBroken cs n)
 
 -- ---- a step back: the case with an id not run
 module _ (cs : List RbCase) (l : Legal cs) (id : ℕ) (listed : someIf (hasId id) cs ≡ true) (alone : All (λ c. running c ≡ true → c .id ≡ id) cs) where
@@ -196,9 +196,9 @@ two-further cs id d e f r =
     (r .0 ++ (d ∷ e ∷ []), after-two (newRun cs) (r .0) (d ∷ e ∷ []) ∙ ap (λ (q : Run). fed (fed (after q (r .0)) d) e) (ap (λ (l : List RbCase). record { cases = l; mark = markClear }) (sym (newRun-set (hasId id) 0 cs))) ∙ ap (λ (q : Run). fed (fed q d) e) (r .1) ∙ f)
 
 -- a closed state is the event that gives it
-closed-is : (k : ℕ) → leb k 4 ≡ true → eqb k 0 ≡ false → eqb k 1 ≡ false → stateAfter k ≡ k
+closed-is : (k : ℕ) → leb k stateBroken ≡ true → eqb k stateNotRun ≡ false → eqb k stateRunning ≡ false → stateAfter k ≡ k
 unfolding stateAfter
-closed-is k h z o = by-bool (leb k 3) (λ t. rw t) (λ t. rw t (omega (arith, leb-true k 4 h, leb-false k 3 t)))
+closed-is k h z o = by-bool (leb k stateFailed) (λ t. rw t) (λ t. rw t (omega (arith, leb-true k stateBroken h, leb-false k stateFailed t)))
 
 known-of : (id : ℕ) (cs : List RbCase) → allIf known cs ≡ true → someIf (hasId id) cs ≡ true → stateOf id cs ≤ stateBroken
 unfolding allIf someIf stateOf
@@ -228,7 +228,7 @@ reach (suc n) cs few l =
     (ap (λ (r : Run). fed r (record { kind = k; id = id })) (begin-it cs l id (q .listed) alone)
     ∙ close-fed (begun cs l id (q .listed) alone) (begun-legal cs l id (q .listed) alone) k id other (omega (arith, eqb-false k 0 nonzero)) (omega (arith, low))
     (listed-set id 1 (back cs l id (q .listed) alone) ∙ listed-set id 0 cs ∙ q .listed) (state-set id 1 (back cs l id (q .listed) alone) (listed-set id 0 cs ∙ q .listed))
-    ∙ ap (λ (c : List RbCase). record { cases = c; mark = markClear }) (ap (λ (s : ℕ). map (changed running s) (begun cs l id (q .listed) alone)) (closed-is k (le-leb k 4 (omega (arith, low))) nonzero other) ∙ closed-again cs l id (q .listed) alone k refl t))
+    ∙ ap (λ (c : List RbCase). record { cases = c; mark = markClear }) (ap (λ (s : ℕ). map (changed running s) (begun cs l id (q .listed) alone)) (closed-is k (le-leb k stateBroken (omega (arith, low))) nonzero other) ∙ closed-again cs l id (q .listed) alone k refl t))
     (reach n (map (changed (hasId id) stateNotRun) cs) (omega (arith, few, fewer id cs (q .listed) nonzero)) (back-parts cs l id (q .listed) alone))))
     (λ none. none-started cs none)
 

@@ -8,11 +8,11 @@ use lib.Dec.{eqb}
 use lib.ListN.{length, getD, length-map}
 use borrow.Author.Tests.{eqb-true, eqb-false, eq-eqb, leb-true, not-true}
 use Rattle.tally.specs.declared.RbCase.{RbCase}
-use Rattle.tally.specs.Codes.{stateNotRun, stateRunning, statePassed, stateBroken, eventStart, eventPass, eventFail, eventEnd, markSet, refusedEnded, refusedRun}
+use Rattle.tally.specs.Codes.{stateNotRun, stateRunning, statePassed, stateFailed, stateBroken, eventStart, eventPass, eventFail, eventEnd, markClear, markSet, refusedEnded, refusedRun}
 use Rattle.tally.specs.Run.{countIf, allIf, known, isPassed, isFailed, isBroken, isNotRun, running, someIf, legalCases, markFits, legal, restated, changed, touches, stateAfter, became, markAfter, judged, number, counted, report}
 use Rattle.tally.specs.Scan.{none}
 use Rattle.tally.specs.History.{Run, Event, isLegal, accepts, fed, after, newRun, acceptedOf, names, breaks, closes, closedBy, told, asTold, toldFrom, asToldFrom, someEvent}
-use Rattle.tally.specs.Theorems.{caseAt, startOf, NewLegal, LegalStays, LegalReached, AsTold, AsToldFrom, ReportTold, OneClass, SumIsLength, NeverStarted, PassedWasStarted, RunningIsBroken, BrokenUntilVerdict, RefusedKeeps, MarkTold, AfterEnd, IdsStay}
+use Rattle.tally.specs.Theorems.{caseAt, startOf, classes, NewLegal, LegalStays, LegalReached, AsTold, AsToldFrom, ReportTold, OneClass, SumIsLength, NeverStarted, PassedWasStarted, RunningIsBroken, BrokenUntilVerdict, RefusedKeeps, MarkTold, AfterEnd, IdsStay}
 use Rattle.tally.proofs.TestLaws.{by-bool, and-left, and-right, not-both-ways}
 use Rattle.tally.proofs.CaseLaws.{legal-parts, parts-legal}
 use Rattle.tally.proofs.NumberLaws.{taken}
@@ -59,18 +59,18 @@ unfolding legal markFits Reached
 legal-reached r h =
     let ok = and-left (legalCases (r .cases)) (markFits (r .mark) (someIf running (r .cases))) h in
     let fits = and-right (legalCases (r .cases)) (markFits (r .mark) (someIf running (r .cases))) h in
-    by-bool (eqb (r .mark) 0)
-    (λ t. let q = reach-open (r .cases) ok in (q .0, q .1 ∙ ap (λ (n : ℕ). record { cases = r .cases; mark = n }) (sym (eqb-true (r .mark) 0 t))))
-    (λ t. let e : eqb (r .mark) 1 && not (someIf running (r .cases)) ≡ true = rw t at fits in
-    let q = reach-end (r .cases) ok (not-true (someIf running (r .cases)) (and-right (eqb (r .mark) 1) (not (someIf running (r .cases))) e)) in
-    (q .0, q .1 ∙ ap (λ (n : ℕ). record { cases = r .cases; mark = n }) (sym (eqb-true (r .mark) 1 (and-left (eqb (r .mark) 1) (not (someIf running (r .cases))) e)))))
+    by-bool (eqb (r .mark) markClear)
+    (λ t. let q = reach-open (r .cases) ok in (q .0, q .1 ∙ ap (λ (n : ℕ). record { cases = r .cases; mark = n }) (sym (eqb-true (r .mark) markClear t))))
+    (λ t. let e : eqb (r .mark) markSet && not (someIf running (r .cases)) ≡ true = rw t at fits in
+    let q = reach-end (r .cases) ok (not-true (someIf running (r .cases)) (and-right (eqb (r .mark) markSet) (not (someIf running (r .cases))) e)) in
+    (q .0, q .1 ∙ ap (λ (n : ℕ). record { cases = r .cases; mark = n }) (sym (eqb-true (r .mark) markSet (and-left (eqb (r .mark) markSet) (not (someIf running (r .cases))) e)))))
 
 -- no event says nothing
 told-nothing : (c : RbCase) → asToldFrom [] c ≡ c
 unfolding toldFrom told closedBy
 told-nothing c =
-    by-bool (eqb (c .state) 0) (λ t. rw t (ap (λ (n : ℕ). record { id = c .id; state = n }) (sym (eqb-true (c .state) 0 t))))
-    (λ t. by-bool (eqb (c .state) 1) (λ s. rw (t, s) (ap (λ (n : ℕ). record { id = c .id; state = n }) (sym (eqb-true (c .state) stateRunning s)))) (λ s. rw (t, s)))
+    by-bool (eqb (c .state) stateNotRun) (λ t. rw t (ap (λ (n : ℕ). record { id = c .id; state = n }) (sym (eqb-true (c .state) stateNotRun t))))
+    (λ t. by-bool (eqb (c .state) stateRunning) (λ s. rw (t, s) (ap (λ (n : ℕ). record { id = c .id; state = n }) (sym (eqb-true (c .state) stateRunning s)))) (λ s. rw (t, s)))
 
 all-nothing : (cs : List RbCase) → map (asToldFrom []) cs ≡ cs
 all-nothing [] = refl
@@ -135,14 +135,21 @@ ids-stay r (e ∷ es) =
     ∙ by-bool (accepts r e) (λ t. ap (λ (l : List RbCase). map (λ c. c .id) l) (taken-cases r e t) ∙ ids-became (e .kind) (e .id) (r .cases)) (λ t. ap (λ (q : Run). map (λ c. c .id) (q .cases)) (refused-keeps r e t))
 
 -- ---- the classes
-by-state : (P : ℕ → Type 0) → P 0 → P 1 → P 2 → P 3 → P 4 → (s : ℕ) → s ≤ stateBroken → P s
-by-state P a b c d e s h =
-    by-bool (eqb s 0) (λ t. rw (eqb-true s 0 t) a) (λ t₀. by-bool (eqb s 1) (λ t. rw (eqb-true s 1 t) b) (λ t₁. by-bool (eqb s 2) (λ t. rw (eqb-true s 2 t) c) (λ t₂. by-bool (eqb s 3) (λ t. rw (eqb-true s 3 t) d) (λ t₃.
-    let l : s ≡ 4 = omega (arith, eqb-false s 0 t₀, eqb-false s 1 t₁, eqb-false s 2 t₂, eqb-false s 3 t₃) in rw l e))))
+legal-known : (r : Run) → isLegal r ≡ true → allIf known (r .cases) ≡ true
+unfolding legal
+legal-known r h = legal-parts (r .cases) (and-left (legalCases (r .cases)) (markFits (r .mark) (someIf running (r .cases))) h) .knows
 
-pub one-class : OneClass
-one-class c h =
-    by-state (λ s. cond (eqb s 2) 1 0 + cond (eqb s 3) 1 0 + cond (eqb s 1 || eqb s 4) 1 0 + cond (eqb s 0) 1 0 ≡ 1) refl refl refl refl refl (c .state) (leb-true (c .state) stateBroken h)
+same-length : (r : Run) (es : List Event) → isLegal r ≡ true → length (after r es .cases) ≡ length (r .cases)
+same-length r es h = ap length (as-told-from r es h) ∙ length-map (r .cases) (asToldFrom (acceptedOf r es))
+
+by-state : (P : ℕ → Type 0) → P stateNotRun → P stateRunning → P statePassed → P stateFailed → P stateBroken → (s : ℕ) → s ≤ stateBroken → P s
+by-state P a b c d e s h =
+    by-bool (eqb s stateNotRun) (λ t. rw (eqb-true s stateNotRun t) a) (λ t₀. by-bool (eqb s stateRunning) (λ t. rw (eqb-true s stateRunning t) b) (λ t₁. by-bool (eqb s statePassed) (λ t. rw (eqb-true s statePassed t) c) (λ t₂. by-bool (eqb s stateFailed) (λ t. rw (eqb-true s stateFailed t) d) (λ t₃.
+    let l : s ≡ stateBroken = omega (arith, eqb-false s stateNotRun t₀, eqb-false s stateRunning t₁, eqb-false s statePassed t₂, eqb-false s stateFailed t₃) in rw l e))))
+
+known-class : (c : RbCase) → known c ≡ true → classes c ≡ 1
+known-class c h =
+    by-state (λ s. classes (record { id = c .id; state = s }) ≡ 1) refl refl refl refl refl (c .state) (leb-true (c .state) stateBroken h)
 
 counted-one : (p : RbCase → Bool) (c : RbCase) (cs : List RbCase) → countIf p (c ∷ cs) ≡ cond (p c) 1 0 + countIf p cs
 unfolding countIf
@@ -156,14 +163,14 @@ four-add : (cs : List RbCase) → allIf known cs ≡ true → countIf isPassed c
 unfolding allIf
 four-add [] h = rw (none-counted isPassed, none-counted isFailed, none-counted isBroken, none-counted isNotRun)
 four-add (c ∷ cs) h =
-    omega (arith, four-add cs (and-right (known c) (allIf known cs) h), one-class c (and-left (known c) (allIf known cs) h), counted-one isPassed c cs, counted-one isFailed c cs, counted-one isBroken c cs, counted-one isNotRun c cs)
+    omega (arith, four-add cs (and-right (known c) (allIf known cs) h), known-class c (and-left (known c) (allIf known cs) h), counted-one isPassed c cs, counted-one isFailed c cs, counted-one isBroken c cs, counted-one isNotRun c cs)
 
 report-adds : (cs : List RbCase) (m : ℕ) → legal cs m ≡ true → report cs m .passed + report cs m .failed + report cs m .broken + report cs m .«not_run» ≡ length cs
 unfolding report legal
-report-adds cs m h = rw h (four-add cs (legal-parts cs (and-left (legalCases cs) (markFits m (someIf running cs)) h) .knows))
+report-adds cs m h = rw h (four-add cs (legal-known (record { cases = cs; mark = m }) h))
 
 pub sum-is-length : SumIsLength
-sum-is-length r es h = report-adds (after r es .cases) (after r es .mark) (legal-stays r es h) ∙ ap length (as-told-from r es h) ∙ length-map (r .cases) (asToldFrom (acceptedOf r es))
+sum-is-length r es h = report-adds (after r es .cases) (after r es .mark) (legal-stays r es h) ∙ same-length r es h
 
 -- ---- a case never started
 mapped-at : (f : RbCase → RbCase) (cs : List RbCase) (i : ℕ) → i < length cs → getD (map f cs) i none ≡ f (getD cs i none)
@@ -179,6 +186,16 @@ unstarted id (e ∷ es) h = by-bool (names eventStart id e) (λ t. not-both-ways
 -- the case at a place, as it is told
 case-told : (r : Run) (es : List Event) (i : ℕ) → isLegal r ≡ true → i < length (r .cases) → caseAt (after r es) i ≡ asToldFrom (acceptedOf r es) (caseAt r i)
 case-told r es i h within = ap (λ (l : List RbCase). getD l i none) (as-told-from r es h) ∙ mapped-at (asToldFrom (acceptedOf r es)) (r .cases) i within
+
+all-at : (p : RbCase → Bool) (cs : List RbCase) (i : ℕ) → allIf p cs ≡ true → i < length cs → p (getD cs i none) ≡ true
+unfolding allIf
+all-at p [] i h within = absurd (omega arith)
+all-at p (c ∷ cs) zero h within = and-left (p c) (allIf p cs) h
+all-at p (c ∷ cs) (suc i) h within = all-at p cs i (and-right (p c) (allIf p cs) h) (omega arith)
+
+pub one-class : OneClass
+one-class r es i h within =
+    known-class (caseAt (after r es) i) (all-at known (after r es .cases) i (legal-known (after r es) (legal-stays r es h)) (rw (same-length r es h) within))
 
 -- of a case that was not run the events tell from its start on
 state-told : (r : Run) (es : List Event) (i : ℕ) → isLegal r ≡ true → i < length (r .cases) → isNotRun (caseAt r i) ≡ true → caseAt (after r es) i .state ≡ told (caseAt r i .id) (acceptedOf r es)

@@ -8,7 +8,7 @@ use lib.ListN.{length, getD}
 use Rattle.tally.specs.declared.RbCase.{RbCase}
 use Rattle.tally.specs.declared.judge.RbReport.{RbReport}
 use Rattle.tally.specs.Codes.{mostCases, eventStart, eventPass, eventEnd, markSet, refusedEnded}
-use Rattle.tally.specs.Run.{ascending, known, running, isPassed, isFailed, isBroken, isNotRun, number, counted, report}
+use Rattle.tally.specs.Run.{ascending, running, isPassed, isFailed, isBroken, isNotRun, number, counted, report}
 use Rattle.tally.specs.Scan.{none}
 use Rattle.tally.specs.History.{Run, Event, isLegal, accepts, fed, after, newRun, acceptedOf, names, closes, asTold, asToldFrom, someEvent}
 
@@ -21,6 +21,10 @@ caseAt r i = getD (r .cases) i none
 
 abbrev pub startOf : Run → ℕ → Event
 startOf r i = record { kind = eventStart; id = caseAt r i .id }
+
+-- in how many of the four classes a case is
+abbrev pub classes : RbCase → ℕ
+classes c = cond (isPassed c) 1 0 + cond (isFailed c) 1 0 + cond (isBroken c) 1 0 + cond (isNotRun c) 1 0
 
 -- ---- which runs are legal
 -- A new run over a list that is short enough and ascending is legal.
@@ -48,9 +52,9 @@ AsToldFrom = (r : Run) (es : List Event) → isLegal r ≡ true → after r es .
 abbrev pub ReportTold : Type 0
 ReportTold = (cs : List RbCase) (es : List Event) → length cs ≤ mostCases → ascending cs ≡ true → reportOn (after (newRun cs) es) ≡ counted (map (asTold (acceptedOf (newRun cs) es)) cs)
 
--- A case in a known state is in exactly one class.
+-- "in exactly one class".
 abbrev pub OneClass : Type 0
-OneClass = (c : RbCase) → known c ≡ true → cond (isPassed c) 1 0 + cond (isFailed c) 1 0 + cond (isBroken c) 1 0 + cond (isNotRun c) 1 0 ≡ 1
+OneClass = (r : Run) (es : List Event) (i : ℕ) → isLegal r ≡ true → i < length (r .cases) → classes (caseAt (after r es) i) ≡ 1
 
 -- "and the four add up to the length of the list".
 abbrev pub SumIsLength : Type 0
