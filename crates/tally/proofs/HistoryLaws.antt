@@ -60,7 +60,7 @@ module _ (p : RbCase → Bool) (state : ℕ) where
       let r = known-changed cs s (and-right (known c) (allIf known cs) e) in
       by-bool (p c) (λ t. rw (t, s) r) (λ t. rw (t, and-left (known c) (allIf known cs) e) r)
 
-closed-running : (state : ℕ) (cs : List RbCase) → eqb state 1 ≡ false → someIf running (map (changed running state) cs) ≡ false
+closed-running : (state : ℕ) (cs : List RbCase) → eqb state stateRunning ≡ false → someIf running (map (changed running state) cs) ≡ false
 unfolding someIf
 closed-running state [] e = refl
 closed-running state (c ∷ cs) e = by-bool (running c) (λ t. rw (t, e) (closed-running state cs e)) (λ t. rw (t, t) (closed-running state cs e))
@@ -223,7 +223,7 @@ module _ (cs : List RbCase) (m event id : ℕ) (a : Taken cs m event id) where
             by-bool (leb event eventFail) (λ t. all-map (λ c f g _. f g) (runner-named id cs (lawful .single) (names-runner t .0) (names-runner t .1)))
             (λ t. all-any (λ c. running c ≡ true → leb event eventFail ≡ true → c .id ≡ id) (λ c g s. not-both-ways s t) cs)
 
-    closing-state : (leb (stateAfter event) stateBroken ≡ true) × (eqb (stateAfter event) 1 ≡ false)
+    closing-state : (leb (stateAfter event) stateBroken ≡ true) × (eqb (stateAfter event) stateRunning ≡ false)
     unfolding stateAfter
     closing-state = by-bool (leb event eventFail) (λ t. rw t (le-leb event stateBroken (omega (arith, leb-true event eventFail t)), other)) (λ t. rw t (refl, refl))
 

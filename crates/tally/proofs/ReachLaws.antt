@@ -38,7 +38,7 @@ module _ (id k : ℕ) where
   state-set (c ∷ cs) e = by-bool (hasId id c) (λ t. rw (t, t)) (λ t. rw (t, t) (state-set cs (rw t at e)))
 
   -- where whatever runs has this id, none runs afterwards
-  runs-set : {cs : List RbCase} → eqb k 1 ≡ false → All (λ c. running c ≡ true → c .id ≡ id) cs → someIf running (map (changed (hasId id) k) cs) ≡ false
+  runs-set : {cs : List RbCase} → eqb k stateRunning ≡ false → All (λ c. running c ≡ true → c .id ≡ id) cs → someIf running (map (changed (hasId id) k) cs) ≡ false
   unfolding someIf
   runs-set n end = refl
   runs-set n (more {c} {cs} f a) =
@@ -213,7 +213,7 @@ reach (suc n) cs few l =
     (λ some. by-bool (someIf running cs)
     (λ t. let q = pick running cs (λ k. ascending-once k cs (l .order)) t in
     let id = q .one .id in
-    let z : stateOf id cs ≡ stateRunning = q .stands ∙ eqb-true (q .one .state) 1 (q .holds) in
+    let z : stateOf id cs ≡ stateRunning = q .stands ∙ eqb-true (q .one .state) stateRunning (q .holds) in
     let alone = runner-named id cs (l .single) (q .listed) z in
     one-further cs id (record { kind = eventStart; id = id }) (begin-it cs l id (q .listed) alone ∙ ap (λ (c : List RbCase). record { cases = c; mark = markClear }) (begun-runs cs l id (q .listed) alone z))
     (reach n (map (changed (hasId id) stateNotRun) cs) (omega (arith, few, fewer id cs (q .listed) (rw z refl))) (back-parts cs l id (q .listed) alone)))
@@ -222,7 +222,7 @@ reach (suc n) cs few l =
     let k = stateOf id cs in
     let alone : All (λ c. running c ≡ true → c .id ≡ id) cs = all-map (λ c (f : running c ≡ false) (g : running c ≡ true). not-both-ways g f) (all-false running cs t) in
     let nonzero : eqb k 0 ≡ false = rw (q .stands) (not-true (isNotRun (q .one)) (q .holds)) in
-    let other : eqb k 1 ≡ false = by-bool (eqb k 1) (λ s. not-both-ways (named-runs id cs (q .listed) (eqb-true k 1 s)) t) (λ s. s) in
+    let other : eqb k stateRunning ≡ false = by-bool (eqb k stateRunning) (λ s. not-both-ways (named-runs id cs (q .listed) (eqb-true k stateRunning s)) t) (λ s. s) in
     let low : k ≤ stateBroken = known-of id cs (l .knows) (q .listed) in
     two-further cs id (record { kind = eventStart; id = id }) (record { kind = k; id = id })
     (ap (λ (r : Run). fed r (record { kind = k; id = id })) (begin-it cs l id (q .listed) alone)
