@@ -4,13 +4,13 @@
  *
  * bench/run builds and starts this program; docs/PERFORMANCE.md tells how to read what it prints. */
 #define _DEFAULT_SOURCE
-#include <time.h>
-
 #include "agent.h"
+#include "figures.h"
 #include "stack.h"
+#include "tally.h"
 #include "workload.h"
 
-enum { ROUNDS = 21, BATCH_NANOSECONDS = 1000000, TRIPS = 200, LINE = 96 };
+enum { BATCH_NANOSECONDS = 1000000, TRIPS = 200, LINE = 96 };
 
 /* What the project asks of an answer to a get with one binding. */
 enum { MOST_MEMCMPS = 16, PARTS_OF_SNMPD = 3 };
@@ -76,30 +76,6 @@ static uint8_t rooms[IMPLEMENTATIONS][RB_MESSAGE_MAX];
 /* Errands by kind and number of bindings, then the library's own. */
 enum { SNMP_GET_1, SNMP_NEXT_1, SNMP_GET_16, SNMP_NEXT_16, SNMP_ERRANDS, LIBRARY_ERRAND = SNMP_ERRANDS, ERRANDS };
 static struct errand errands[ERRANDS];
-
-static uint64_t now(clockid_t clock)
-{
-    struct timespec time;
-
-    clock_gettime(clock, &time);
-    return (uint64_t)time.tv_sec * 1000000000u + (uint64_t)time.tv_nsec;
-}
-
-static int ascending(const void *a, const void *b)
-{
-    double x = *(const double *)a, y = *(const double *)b;
-
-    return (x > y) - (x < y);
-}
-
-static double median(const double *values, size_t count)
-{
-    double sorted[TRIPS > ROUNDS ? TRIPS : ROUNDS];
-
-    memcpy(sorted, values, count * sizeof *values);
-    qsort(sorted, count, sizeof *sorted, ascending);
-    return sorted[count / 2];
-}
 
 /* Processor time of one call, so that other programs on the machine do not count. */
 static double time_batch(const struct implementation *by, const struct job *job, const struct workload *workload,
@@ -352,5 +328,6 @@ int main(int argc, char **argv)
     print_errands();
     print_depth();
     print_rules();
+    print_tallies();
     return 0;
 }

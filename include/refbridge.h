@@ -3,11 +3,12 @@
  * The caller lends every octet that the library works on: a block that holds one bridge, a request, and a room for the answer. The library keeps
  * nothing between calls, takes no memory, and has no globals, so calls on different blocks may run at the same time.
  *
- * What every call does is an equation with a definition (crates/answer/specs, crates/block/specs, crates/timers/specs), proved for all octets,
- * lengths and numbers. What the caller must still promise, because C cannot show it to the library:
+ * What every call does is an equation with a definition (crates/answer/specs, crates/block/specs, crates/timers/specs, crates/tally/specs), proved for
+ * all octets, lengths and numbers. What the caller must still promise, because C cannot show it to the library:
  *   - each pointer is valid for as many octets as the length beside it says: `block` and `room` to read and write, the others to read; a pointer is
  *     not NULL, not even with the length 0;
  *   - block, request and room do not overlap, and neither do block and address;
+ *   - a run's list is valid for `count` records and its mark for one octet, and the mark does not stand in the list;
  *   - nothing else writes them during a call.
  */
 #ifndef REFBRIDGE_H
@@ -26,8 +27,9 @@ extern "C" {
 #define RB_ADDRESS_SIZE 6u     /* a bridge's address */
 #define RB_BINDINGS_MAX 16u    /* bindings in a message */
 #define RB_PORTS_MAX    64u    /* ports of a bridge */
+#define RB_CASES_MAX    65535u /* cases of a run */
 
-/* Numbered returns. For 1 to 10 the block and the answer room keep every octet, and the count is 0. */
+/* Numbered returns. A refusal keeps every octet that is lent, and every other result is 0. */
 enum rb_number {
     RB_ANSWERED = 0,          /* the call did its work */
     RB_ROOM_SHORT = 1,        /* the answer room has under 1,472 octets */
@@ -39,7 +41,12 @@ enum rb_number {
     RB_HEAD_WRONG = 7,        /* the kind is not 0, 1 or 3, or status or index is not 0 */
     RB_TOO_MANY_BINDINGS = 8, /* there is a 17th binding */
     RB_SETUP_REFUSED = 9,     /* set-up: block not 32,768 octets, ports not 1 to 64, or address not 6 octets */
-    RB_TIMER_RANGE = 10       /* a timer conversion is out of range */
+    RB_TIMER_RANGE = 10,      /* a timer conversion is out of range */
+    RB_EVENT_UNKNOWN = 11,    /* an unknown event, or an id that is not listed */
+    RB_START_REFUSED = 12,    /* start of a case already started, or while one runs */
+    RB_VERDICT_REFUSED = 13,  /* verdict or crash with none running, or verdict for another case */
+    RB_RUN_ENDED = 14,        /* any event after end */
+    RB_RUN_NOT_LEGAL = 15     /* the list is too long, not ascending, or in a state that no events lead to */
 };
 
 /* Kinds of message: the one octet of field 01. */
@@ -77,6 +84,12 @@ enum rb_tag {
     RB_TAG_END_OF_MIB_VIEW = 0x32
 };
 
+/* States of a case in a run. A running case counts as broken until its verdict. */
+enum rb_state { RB_NOT_RUN = 0, RB_RUNNING = 1, RB_PASSED = 2, RB_FAILED = 3, RB_BROKEN = 4 };
+
+/* Events of a run. Start, pass and fail name a case; the id beside crash and end is not looked at. */
+enum rb_event { RB_START = 1, RB_PASS = 2, RB_FAIL = 3, RB_CRASH = 4, RB_END = 5 };
+
 /* What a call returns: one of rb_number, a count that is 0 unless the number is 0, and an offset that is 0 unless the number is 4 to 8: then it tells where in
  * the request the field's tag octet is or would be, or the first octet that is left over behind a binding's two fields. */
 typedef struct {
@@ -84,6 +97,21 @@ typedef struct {
     uint32_t count;
     uint32_t offset;
 } rb_result;
+
+/* A case of a run: its id, and one of rb_state. */
+typedef struct {
+    uint32_t id;
+    uint32_t state;
+} rb_case;
+
+/* How many cases of a run are in each class; the four add up to the length of the list. The number is 0, or 15 and the four are 0. */
+typedef struct {
+    uint32_t number;
+    uint32_t passed;
+    uint32_t failed;
+    uint32_t broken;
+    uint32_t not_run;
+} rb_report;
 
 /* Writes a fresh bridge into the whole block. Returns 0 or 9; the count is 0. */
 rb_result rb_setup(uint8_t *block, size_t block_len, uint32_t ports, const uint8_t *address, size_t address_len);
@@ -96,6 +124,14 @@ rb_result rb_answer(uint8_t *block, size_t block_len, const uint8_t *request, si
  * Returns 0 or 10. */
 rb_result rb_to_256ths(uint32_t hundredths);
 rb_result rb_to_hundredths(uint32_t ticks);
+
+/* Feeds one event to a run: `cases` is its list, at most RB_CASES_MAX records with ids strictly ascending, and `ended` its mark, 0 or 1. A new run has
+ * all states RB_NOT_RUN and the mark 0. An accepted event changes the state of one case at most; an accepted end sets the mark. Returns 0 or 11 to 15,
+ * judged 15, 14, 11, 12, 13; count and offset are 0. */
+rb_result rb_tally_event(rb_case *cases, size_t count, uint8_t *ended, uint32_t event, uint32_t id);
+
+/* Counts the classes of a run, ended or not. Returns 0 or 15. */
+rb_report rb_tally_report(const rb_case *cases, size_t count, uint8_t ended);
 
 #ifdef __cplusplus
 }

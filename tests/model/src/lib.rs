@@ -7,6 +7,7 @@ pub mod library;
 pub mod model;
 pub mod player;
 pub mod random;
+pub mod runs;
 pub mod shrink;
 pub mod step;
 pub mod sweeps;
