@@ -18,7 +18,7 @@ pub extern "C" fn rb_console_take(state: &mut [u8], chunk: &[u8], room: &mut [u8
 // Makes a state fresh.
 #[no_mangle]
 pub extern "C" fn rb_console_reset(state: &mut [u8]) -> RbResult
-    ensures { λ r. ⌜ ((r .number, now (state .exit)) ≡ resetting (now (state .entry))) × (r .count ≡ 0) ⌝ }
+    ensures { λ r. ⌜ ((r .number, now (state .exit)) ≡ resetting (now (state .entry))) × (r .count ≡ 0) × (r .offset ≡ 0) ⌝ }
 {
     refusal(reset(state))
 }

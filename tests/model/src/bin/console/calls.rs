@@ -3,11 +3,11 @@
 use refbridge_model::model::console::{self, Taken, HEADER_WRONG, LENGTH_OVER, ROOM_SHORT};
 use refbridge_model::model::message::LONGEST;
 
-/// `rb_console_take`, and `rb_console_reset` with its number and count.
+/// `rb_console_take`, and `rb_console_reset` with its number, count and offset.
 #[derive(Clone, Copy)]
 pub struct Calls {
     pub take: fn(&mut [u8], &[u8], &mut [u8]) -> Taken,
-    pub reset: fn(&mut [u8]) -> (u32, u32),
+    pub reset: fn(&mut [u8]) -> (u32, u32, u32),
 }
 
 /// None where this program was built without the library.
@@ -34,6 +34,7 @@ mod archive {
     struct Result {
         number: u32,
         count: u32,
+        offset: u32,
     }
 
     #[link(name = "refbridge", kind = "static")]
@@ -60,14 +61,14 @@ mod archive {
         Taken { number, taken, complete, count }
     }
 
-    fn reset(state: &mut [u8]) -> (u32, u32) {
+    fn reset(state: &mut [u8]) -> (u32, u32, u32) {
         let result = unsafe { rb_console_reset(state.as_mut_ptr(), state.len()) };
-        (result.number, result.count)
+        (result.number, result.count, result.offset)
     }
 }
 
-fn reset(state: &mut [u8]) -> (u32, u32) {
-    (console::reset(state), 0)
+fn reset(state: &mut [u8]) -> (u32, u32, u32) {
+    (console::reset(state), 0, 0)
 }
 
 /// The model's calls, each with one fault, and what the fault is: the comparison must find every one.
@@ -167,7 +168,7 @@ fn bad_made_fresh(state: &mut [u8], chunk: &[u8], room: &mut [u8]) -> Taken {
     result
 }
 
-fn reset_in_part(state: &mut [u8]) -> (u32, u32) {
+fn reset_in_part(state: &mut [u8]) -> (u32, u32, u32) {
     let result = reset(&mut state.to_vec());
     if result.0 == 0 {
         state[..console::HEADER].fill(0);

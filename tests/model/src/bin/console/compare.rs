@@ -111,7 +111,7 @@ impl Bench {
         let back = self.random.chance(50);
         let lent = self.buffers[0].lend(state, back);
         let got = (self.calls.reset)(lent);
-        if got != (number, 0) || *lent != expected[..] {
+        if got != (number, 0, 0) || *lent != expected[..] {
             return Err(format!("reset of {} octets: {got:?}, and the model {number}", state.len()));
         }
         self.compared += 1;
