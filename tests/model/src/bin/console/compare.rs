@@ -65,13 +65,19 @@ impl Bench {
         let (lent_state, lent_room) = (lent_state.lend(state, back), lent_room.lend(&room, back));
         let lent_chunk = lent_chunk.lend(chunk, back);
         let got = (self.calls.take)(lent_state, lent_chunk, lent_room);
-        let what = format!("state {:02X?}.., chunk of {} octets, room of {room_len}", &state[..state.len().min(8)], chunk.len());
+        let what = format!(
+            "state {:02X?}.., chunk of {} octets, room of {room_len}",
+            &state[..state.len().min(8)],
+            chunk.len()
+        );
         if got != expected {
             return Err(format!("{what}: {got:?}, and the model {expected:?}"));
         }
-        for (part, octets, model) in
-            [("room", &*lent_room, &expected_room[..]), ("state", &*lent_state, &expected_state), ("chunk", &*lent_chunk, chunk)]
-        {
+        for (part, octets, model) in [
+            ("room", &*lent_room, &expected_room[..]),
+            ("state", &*lent_state, &expected_state),
+            ("chunk", &*lent_chunk, chunk),
+        ] {
             if octets != model {
                 return Err(format!("{what}: the {part} differs"));
             }

@@ -25,7 +25,9 @@ pub fn one_stream(bench: &mut Bench) -> Result<(), Difference> {
     for cutting in CUTTINGS {
         let heard = play(bench, start.clone(), &octets, cutting)?;
         match &first {
-            Some(other) if *other != heard => return Err(format!("two cuttings of {octets:02X?} are heard differently")),
+            Some(other) if *other != heard => {
+                return Err(format!("two cuttings of {octets:02X?} are heard differently"))
+            }
             Some(_) => {}
             None => first = Some(heard),
         }

@@ -78,7 +78,10 @@ fn compare_library(library: Calls, options: &Options) -> ExitCode {
     match &outcome {
         Err(difference) => println!("after {compared} calls: {difference}"),
         Ok(()) => {
-            println!("{} streams, {compared} calls compared (at least {least} announced), 0 differences", options.streams)
+            println!(
+                "{} streams, {compared} calls compared (at least {least} announced), 0 differences",
+                options.streams
+            )
         }
     }
     if outcome.is_ok() && missing.is_empty() && compared >= least {

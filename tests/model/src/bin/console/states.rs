@@ -9,7 +9,10 @@ fn ways() -> Vec<Vec<u8>> {
     let whole = frame(&[0x5A; LONGEST]);
     let short = frame(&[7, 8, 9]);
     let mut ways: Vec<Vec<u8>> = (0..=HEADER).map(|count| whole[..count].to_vec()).collect();
-    ways.extend([&whole[..HEADER + 1], &whole[..HEADER + 700], &whole[..whole.len() - 1], &short[..6], &short[..7]].map(<[u8]>::to_vec));
+    ways.extend(
+        [&whole[..HEADER + 1], &whole[..HEADER + 700], &whole[..whole.len() - 1], &short[..6], &short[..7]]
+            .map(<[u8]>::to_vec),
+    );
     ways.push(vec![0]);
     ways.push([&MARK[..], &[0xFF, 0xFF]].concat());
     ways.push([&MARK[..], &[0xFF]].concat());
