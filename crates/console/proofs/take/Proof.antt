@@ -15,7 +15,9 @@ refusal-requires : tie.Need-refusal-requires
 refusal-requires c κs = search needs
 
 returns : tie.Need-returns
-returns c = rw (c .refusal .ensures) (take-short (c .before .before .before .before .before .args .state .now) (c .before .before .before .before .before .args .chunk .now) (c .before .before .before .before .before .args .room .now) (omega arith))
+returns c =
+    let d5 = c .before .before .before .before .before in
+    rw (c .refusal .ensures) (take-short (d5 .args .state .now) (d5 .args .chunk .now) (d5 .args .room .now) (omega arith))
 
 is-left-requires : tie.Need-is-left-requires
 is-left-requires c κs = search needs
@@ -31,12 +33,16 @@ same-length c = search needs
 
 returns-2 : tie.Need-returns-2
 returns-2 c =
-    let a = c .before .before .before .before .before .before .before .before .args in
+    let d2 = c .before .before in
+    let d8 = d2 .before .before .before .before .before .before in
+    let a = d8 .args in
     rw (c .refusal2 .ensures)
-    (take-unfit (a .state .now) (a .chunk .now) (a .room .now) (omega arith) (sym (c .before .before .is-left .ensures) ∙ not-true (c .before .before .is-left .result) (c .before .if2 .taken)))
+    (take-unfit (a .state .now) (a .chunk .now) (a .room .now) (omega arith) (sym (d2 .is-left .ensures) ∙ not-true (d2 .is-left .result) (c .before .if2 .taken)))
 
 slice-read-phase : tie.Need-slice-read-phase
-slice-read-phase c = omega (arith, left-length _ (sym (c .before .before .is-left .ensures) ∙ not-false (c .before .before .is-left .result) (c .before .if2 .left)))
+slice-read-phase c =
+    let d2 = c .before .before in
+    omega (arith, left-length _ (sym (d2 .is-left .ensures) ∙ not-false (d2 .is-left .result) (c .before .if2 .left)))
 
 cast-refusal-2 : tie.Need-cast-refusal-2
 cast-refusal-2 c = omega (arith, c .before .slice-known3 .given 0)
@@ -49,28 +55,43 @@ same-length-2 c = search needs
 
 returns-3 : tie.Need-returns-3
 returns-3 c =
-    let a = c .before .before .before .before .before .before .before .before .before .before .args in
-    rw (c .refusal3 .ensures) (take-again (a .state .now) (a .chunk .now) (a .room .now) (omega arith) (sym (c .before .before .before .before .is-left .ensures) ∙ not-false (c .before .before .before .before .is-left .result) (c .before .before .before .if2 .left)) (c .before .if3 .taken))
+    let d3 = c .before .before .before in
+    let d4 = d3 .before in
+    let d10 = d4 .before .before .before .before .before .before in
+    let a = d10 .args in
+    rw (c .refusal3 .ensures) (take-again (a .state .now) (a .chunk .now) (a .room .now) (omega arith) (sym (d4 .is-left .ensures) ∙ not-false (d4 .is-left .result) (d3 .if2 .left)) (c .before .if3 .taken))
 
 be2-requires : tie.Need-be2-requires
-be2-requires c κs = omega (arith, left-length _ (sym (c .before .before .before .before .is-left .ensures) ∙ not-false (c .before .before .before .before .is-left .result) (c .before .before .before .if2 .left)))
+be2-requires c κs =
+    let d3 = c .before .before .before in
+    let d4 = d3 .before in
+    omega (arith, left-length _ (sym (d4 .is-left .ensures) ∙ not-false (d4 .is-left .result) (d3 .if2 .left)))
 
 cast-count : tie.Need-cast-count
 cast-count c = search needs
 
 be2-requires-2 : tie.Need-be2-requires-2
-be2-requires-2 c κs = omega (arith, left-length _ (sym (c .before .before .before .before .before .before .is-left .ensures) ∙ not-false (c .before .before .before .before .before .before .is-left .result) (c .before .before .before .before .before .if2 .left)))
+be2-requires-2 c κs =
+    let d5 = c .before .before .before .before .before in
+    let d6 = d5 .before in
+    omega (arith, left-length _ (sym (d6 .is-left .ensures) ∙ not-false (d6 .is-left .result) (d5 .if2 .left)))
 
 cast-size : tie.Need-cast-size
 cast-size c = search needs
 
 take-contents-requires : tie.Need-take-contents-requires
 take-contents-requires c κs =
-    let b = c .before .before .before .before .before .before .before .before .before .before .before .before .before .before .before .before .args .state .now in
-    let l : isLeft b ≡ true = sym (c .before .before .before .before .before .before .before .before .before .before .is-left .ensures) ∙ not-false (c .before .before .before .before .before .before .before .before .before .before .is-left .result) (c .before .before .before .before .before .before .before .before .before .if2 .left) in
-    let h = c .before .before .if4 .taken in
-    let ec = c .before .before .before .before .before .be2 .ensures in
-    let ez = c .before .before .before .be22 .ensures in
+    let d2 = c .before .before in
+    let d3 = d2 .before in
+    let d5 = d3 .before .before in
+    let d9 = d5 .before .before .before .before in
+    let d10 = d9 .before in
+    let d16 = d10 .before .before .before .before .before .before in
+    let b = d16 .args .state .now in
+    let l : isLeft b ≡ true = sym (d10 .is-left .ensures) ∙ not-false (d10 .is-left .result) (d9 .if2 .left) in
+    let h = d2 .if4 .taken in
+    let ec = d5 .be2 .ensures in
+    let ez = d3 .be22 .ensures in
     let w = in-filling b l h in
     (rw ec (filling-tail b l h), omega (arith, w, ec, ez), omega (arith, w, ez), omega arith, omega arith, omega arith)
 
@@ -82,17 +103,31 @@ same-length-4 c = search needs
 
 returns-4 : tie.Need-returns-4
 returns-4 c =
-    let a = c .before .before .before .before .before .before .before .before .before .before .before .before .before .before .before .before .before .before .before .before .before .args in
-    c .before .before .before .before .take-contents .ensures
-    ∙ take-filling (a .state .now) (a .chunk .now) (a .room .now) (omega arith) (sym (c .before .before .before .before .before .before .before .before .before .before .before .before .before .before .before .is-left .ensures) ∙ not-false (c .before .before .before .before .before .before .before .before .before .before .before .before .before .before .before .is-left .result) (c .before .before .before .before .before .before .before .before .before .before .before .before .before .before .if2 .left)) (c .before .before .before .before .before .before .before .if4 .taken) (c .before .before .before .before .before .before .before .before .before .before .be2 .ensures) (c .before .before .before .before .before .before .before .before .be22 .ensures)
+    let d4 = c .before .before .before .before in
+    let d7 = d4 .before .before .before in
+    let d8 = d7 .before in
+    let d10 = d8 .before .before in
+    let d14 = d10 .before .before .before .before in
+    let d15 = d14 .before in
+    let d21 = d15 .before .before .before .before .before .before in
+    let a = d21 .args in
+    d4 .take-contents .ensures
+    ∙ take-filling (a .state .now) (a .chunk .now) (a .room .now) (omega arith) (sym (d15 .is-left .ensures) ∙ not-false (d15 .is-left .result) (d14 .if2 .left)) (d7 .if4 .taken) (d10 .be2 .ensures) (d8 .be22 .ensures)
 
 take-header-requires : tie.Need-take-header-requires
 take-header-requires c κs =
-    let b = c .before .before .before .before .before .before .before .before .before .before .before .before .before .before .before .before .args .state .now in
-    let l : isLeft b ≡ true = sym (c .before .before .before .before .before .before .before .before .before .before .is-left .ensures) ∙ not-false (c .before .before .before .before .before .before .before .before .before .before .is-left .result) (c .before .before .before .before .before .before .before .before .before .if2 .left) in
-    let h : getD b 0 0 ≡ 0 = omega (arith, c .before .before .if4 .left, c .before .before .before .before .before .before .before .if3 .left) in
-    let ec = c .before .before .before .before .before .be2 .ensures in
-    let ez = c .before .before .before .be22 .ensures in
+    let d2 = c .before .before in
+    let d3 = d2 .before in
+    let d5 = d3 .before .before in
+    let d7 = d5 .before .before in
+    let d9 = d7 .before .before in
+    let d10 = d9 .before in
+    let d16 = d10 .before .before .before .before .before .before in
+    let b = d16 .args .state .now in
+    let l : isLeft b ≡ true = sym (d10 .is-left .ensures) ∙ not-false (d10 .is-left .result) (d9 .if2 .left) in
+    let h : getD b 0 0 ≡ 0 = omega (arith, d2 .if4 .left, d7 .if3 .left) in
+    let ec = d5 .be2 .ensures in
+    let ez = d3 .be22 .ensures in
     let w = in-heading b l h in
     (heading-tail b l h, (omega (arith, w, ec), omega (arith, w, ez)), omega arith)
 
@@ -104,10 +139,18 @@ same-length-6 c = search needs
 
 returns-5 : tie.Need-returns-5
 returns-5 c =
-    let a = c .before .before .before .before .before .before .before .before .before .before .before .before .before .before .before .before .before .before .before .before .before .args in
-    let h : getD (a .state .now) 0 0 ≡ 0 = omega (arith, c .before .before .before .before .before .before .before .if4 .left, c .before .before .before .before .before .before .before .before .before .before .before .before .if3 .left) in
-    c .before .before .before .before .take-header .ensures
-    ∙ take-heading (a .state .now) (a .chunk .now) (a .room .now) (omega arith) (sym (c .before .before .before .before .before .before .before .before .before .before .before .before .before .before .before .is-left .ensures) ∙ not-false (c .before .before .before .before .before .before .before .before .before .before .before .before .before .before .before .is-left .result) (c .before .before .before .before .before .before .before .before .before .before .before .before .before .before .if2 .left)) h (c .before .before .before .before .before .before .before .before .before .before .be2 .ensures) (c .before .before .before .before .before .before .before .before .be22 .ensures)
+    let d4 = c .before .before .before .before in
+    let d7 = d4 .before .before .before in
+    let d8 = d7 .before in
+    let d10 = d8 .before .before in
+    let d12 = d10 .before .before in
+    let d14 = d12 .before .before in
+    let d15 = d14 .before in
+    let d21 = d15 .before .before .before .before .before .before in
+    let a = d21 .args in
+    let h : getD (a .state .now) 0 0 ≡ 0 = omega (arith, d7 .if4 .left, d12 .if3 .left) in
+    d4 .take-header .ensures
+    ∙ take-heading (a .state .now) (a .chunk .now) (a .room .now) (omega arith) (sym (d15 .is-left .ensures) ∙ not-false (d15 .is-left .result) (d14 .if2 .left)) h (d10 .be2 .ensures) (d8 .be22 .ensures)
 
 pub take-spec : {M : Type 1} → statement M
 take-spec =

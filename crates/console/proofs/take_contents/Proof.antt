@@ -43,8 +43,11 @@ same-length c = search needs
 
 returns : tie.Need-returns
 returns c =
-    let a = c .before .before .before .before .before .before .before .before .before .before .before .before .before .args in
-    part-told (c .before .before .before .before .before .before .before .before .before .before .before .before .before .pre .0) (a .chunk .now) (a .room .now) (a .at) (a .size) (omega arith) (omega arith) (omega arith) (c .before .before .before .before .before .before .copy-in .ensures) (c .before .before .put-front .ensures)
+    let d2 = c .before .before in
+    let d6 = d2 .before .before .before .before in
+    let d13 = d6 .before .before .before .before .before .before .before in
+    let a = d13 .args in
+    part-told (d13 .pre .0) (a .chunk .now) (a .room .now) (a .at) (a .size) (omega arith) (omega arith) (omega arith) (d6 .copy-in .ensures) (d2 .put-front .ensures)
 
 add-end : tie.Need-add-end
 add-end c = search needs
@@ -93,8 +96,12 @@ same-length-3 c = search needs
 
 returns-2 : tie.Need-returns-2
 returns-2 c =
-    let a = c .before .before .before .before .before .before .before .before .before .before .before .before .before .before .before .before .before .before .before .args in
-    whole-told (c .before .before .before .before .before .before .before .before .before .before .before .before .before .before .before .before .before .before .before .pre .0) (a .chunk .now) (a .room .now) (a .at) (a .size) (omega arith) (omega arith) (omega arith) (omega arith) (omega arith) (c .before .before .before .before .before .before .before .before .before .before .before .copy-in2 .ensures) (c .before .before .before .before .before .before .copy-in3 .ensures) (c .before .before .put-bare .ensures)
+    let d2 = c .before .before in
+    let d6 = d2 .before .before .before .before in
+    let d11 = d6 .before .before .before .before .before in
+    let d19 = d11 .before .before .before .before .before .before .before .before in
+    let a = d19 .args in
+    whole-told (d19 .pre .0) (a .chunk .now) (a .room .now) (a .at) (a .size) (omega arith) (omega arith) (omega arith) (omega arith) (omega arith) (d11 .copy-in2 .ensures) (d6 .copy-in3 .ensures) (d2 .put-bare .ensures)
 
 pub take-contents-spec : {M : Type 1} → statement M
 take-contents-spec =

@@ -22,12 +22,20 @@ same-length : tie.Need-same-length
 same-length c = search needs
 
 returns : tie.Need-returns
-returns c = head-refused _ (c .before .before .before .before .before .before .before .before .read-header .ensures) (c .before .before .before .before .before .before .if1 .taken) (c .before .before .before .before .put-bare .ensures)
+returns c =
+    let d4 = c .before .before .before .before in
+    let d6 = d4 .before .before in
+    let d8 = d6 .before .before in
+    head-refused _ (d8 .read-header .ensures) (d6 .if1 .taken) (d4 .put-bare .ensures)
 
 take-contents-requires : tie.Need-take-contents-requires
 take-contents-requires c κs =
-    let w = c .before .before .before .before .before .before .read-header .ensures in
-    (c .before .before .before .before .before .before .before .before .before .before .pre .0, omega arith, w .short (c .before .before .before .before .if1 .left) (c .before .before .if2 .taken), w .within, w .few, omega arith)
+    let d2 = c .before .before in
+    let d4 = d2 .before .before in
+    let d6 = d4 .before .before in
+    let d10 = d6 .before .before .before .before in
+    let w = d6 .read-header .ensures in
+    (d10 .pre .0, omega arith, w .short (d4 .if1 .left) (d2 .if2 .taken), w .within, w .few, omega arith)
 
 same-length-2 : tie.Need-same-length-2
 same-length-2 c = search needs
@@ -36,7 +44,12 @@ same-length-3 : tie.Need-same-length-3
 same-length-3 c = search needs
 
 returns-2 : tie.Need-returns-2
-returns-2 c = c .before .before .before .before .take-contents .ensures ∙ head-filled _ (c .before .before .before .before .before .before .before .before .before .before .before .read-header .ensures) (c .before .before .before .before .before .before .before .before .before .if1 .left) (c .before .before .before .before .before .before .before .if2 .taken)
+returns-2 c =
+    let d4 = c .before .before .before .before in
+    let d7 = d4 .before .before .before in
+    let d9 = d7 .before .before in
+    let d11 = d9 .before .before in
+    d4 .take-contents .ensures ∙ head-filled _ (d11 .read-header .ensures) (d9 .if1 .left) (d7 .if2 .taken)
 
 put-bare-requires-2 : tie.Need-put-bare-requires-2
 put-bare-requires-2 c κs = search needs
@@ -48,7 +61,12 @@ same-length-4 : tie.Need-same-length-4
 same-length-4 c = search needs
 
 returns-3 : tie.Need-returns-3
-returns-3 c = head-used _ (c .before .before .before .before .before .before .before .before .before .read-header .ensures) (c .before .before .before .before .before .before .before .if1 .left) (c .before .before .before .before .before .if2 .left) (c .before .before .before .put-bare2 .ensures)
+returns-3 c =
+    let d3 = c .before .before .before in
+    let d5 = d3 .before .before in
+    let d7 = d5 .before .before in
+    let d9 = d7 .before .before in
+    head-used _ (d9 .read-header .ensures) (d7 .if1 .left) (d5 .if2 .left) (d3 .put-bare2 .ensures)
 
 pub take-header-spec : {M : Type 1} → statement M
 take-header-spec =

@@ -30,8 +30,11 @@ cast-t12 c = search needs
 
 returns-2 : tie.Need-returns-2
 returns-2 c =
-    let a = c .before .before .before .before .before .before .before .args in
-    frame-short (a .batch .now) (a .at) (head-here (a .batch .now) (a .at) (c .before .before .before .before .read-header .ensures)) (c .before .before .if1 .left) (c .if2 .taken)
+    let d2 = c .before .before in
+    let d4 = d2 .before .before in
+    let d7 = d4 .before .before .before in
+    let a = d7 .args in
+    frame-short (a .batch .now) (a .at) (head-here (a .batch .now) (a .at) (d4 .read-header .ensures)) (d2 .if1 .left) (c .if2 .taken)
 
 add-start : tie.Need-add-start
 add-start c = omega (arith, c .before .before .before .before .before .read-header .ensures .few)
@@ -44,13 +47,21 @@ cast-t14 c = search needs
 
 returns-3 : tie.Need-returns-3
 returns-3 c =
-    let a = c .before .before .before .before .before .before .before .before .before .args in
-    frame-cut (a .batch .now) (a .at) (head-here (a .batch .now) (a .at) (c .before .before .before .before .before .before .read-header .ensures)) (c .before .before .before .before .if1 .left) (c .before .before .if2 .left) (c .if3 .taken)
+    let d2 = c .before .before in
+    let d4 = d2 .before .before in
+    let d6 = d4 .before .before in
+    let d9 = d6 .before .before .before in
+    let a = d9 .args in
+    frame-cut (a .batch .now) (a .at) (head-here (a .batch .now) (a .at) (d6 .read-header .ensures)) (d4 .if1 .left) (d2 .if2 .left) (c .if3 .taken)
 
 returns-4 : tie.Need-returns-4
 returns-4 c =
-    let a = c .before .before .before .before .before .before .before .before .before .args in
-    frame-whole (a .batch .now) (a .at) (head-here (a .batch .now) (a .at) (c .before .before .before .before .before .before .read-header .ensures)) (c .before .before .before .before .if1 .left) (c .before .before .if2 .left) (omega arith) (omega arith)
+    let d2 = c .before .before in
+    let d4 = d2 .before .before in
+    let d6 = d4 .before .before in
+    let d9 = d6 .before .before .before in
+    let a = d9 .args in
+    frame-whole (a .batch .now) (a .at) (head-here (a .batch .now) (a .at) (d6 .read-header .ensures)) (d4 .if1 .left) (d2 .if2 .left) (omega arith) (omega arith)
 
 pub frame-at-spec : {M : Type 1} → statement M
 frame-at-spec =

@@ -18,7 +18,11 @@ put-requires-2 c κs =
     omega (arith, c .before .before .before .put .kept .0, length-set (a .state .now) 0 (a .phase))
 
 same-length : tie.Need-same-length
-same-length c = omega (arith, c .before .before .put2 .kept .0, c .before .before .before .before .before .before .put .kept .0, length-set (c .before .before .before .before .before .before .before .before .before .args .state .now) 0 (c .before .before .before .before .before .before .before .before .before .args .phase))
+same-length c =
+    let d2 = c .before .before in
+    let d6 = d2 .before .before .before .before in
+    let d9 = d6 .before .before .before in
+    omega (arith, d2 .put2 .kept .0, d6 .put .kept .0, length-set (d9 .args .state .now) 0 (d9 .args .phase))
 
 returns : tie.Need-returns
 returns c =
