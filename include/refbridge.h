@@ -3,11 +3,11 @@
  * The caller lends every octet that the library works on: a block that holds one bridge, a request, and a room for the answer. The library keeps
  * nothing between calls, takes no memory, and has no globals, so calls on different blocks may run at the same time.
  *
- * What every call does is an equation with a definition (crates/answer/specs, crates/block/specs, crates/timers/specs, crates/tally/specs), proved for
- * all octets, lengths and numbers. What the caller must still promise, because C cannot show it to the library:
- *   - each pointer is valid for as many octets as the length beside it says: `block` and `room` to read and write, the others to read; a pointer is
- *     not NULL, not even with the length 0;
- *   - block, request and room do not overlap, and neither do block and address;
+ * What every call does is an equation with a definition (in the specs of the crates answer, block, timers, tally and console), proved for all octets, lengths
+ * and numbers. What the caller must still promise, because C cannot show it to the library:
+ *   - each pointer is valid for as many octets as the length beside it says: `block`, `state` and `room` to read and write, the others to read; a
+ *     pointer is not NULL, not even with the length 0;
+ *   - block, request and room do not overlap, and neither do block and address, nor state, chunk and room;
  *   - a run's list is valid for `count` records and its mark for one octet, and the mark does not stand in the list;
  *   - nothing else writes them during a call.
  */
@@ -28,8 +28,10 @@ extern "C" {
 #define RB_BINDINGS_MAX 16u    /* bindings in a message */
 #define RB_PORTS_MAX    64u    /* ports of a bridge */
 #define RB_CASES_MAX    65535u /* cases of a run */
+#define RB_CONSOLE_SIZE 1477u  /* a saved state of the serial console */
 
-/* Numbered returns. A refusal keeps every octet that is lent, and every other result is 0. */
+/* Numbered returns. A refusal keeps every octet that is lent, and every other result is 0, but for the offset of 4 to 8. With 21 and 22 the room is kept too; a
+ * stream that such a number ends keeps it in its saved state. */
 enum rb_number {
     RB_ANSWERED = 0,          /* the call did its work */
     RB_ROOM_SHORT = 1,        /* the answer room has under 1,472 octets */
@@ -46,7 +48,9 @@ enum rb_number {
     RB_START_REFUSED = 12,    /* start of a case already started, or while one runs */
     RB_VERDICT_REFUSED = 13,  /* verdict or crash with none running, or verdict for another case */
     RB_RUN_ENDED = 14,        /* any event after end */
-    RB_RUN_NOT_LEGAL = 15     /* the list is too long, not ascending, or in a state that no events lead to */
+    RB_RUN_NOT_LEGAL = 15,    /* the list is too long, not ascending, or in a state that no events lead to */
+    RB_CONSOLE_WRONG = 21,    /* console: a wrong header or inner length, or a saved state that no stream leaves */
+    RB_CONSOLE_LONG = 22      /* console: a message length over 1,472 */
 };
 
 /* Kinds of message: the one octet of field 01. */
@@ -113,6 +117,15 @@ typedef struct {
     uint32_t not_run;
 } rb_report;
 
+/* What a call of the serial console returns: one of rb_number; the octets of the chunk that it took; whether it handed out a message, 1 or 0; and the
+ * message's length, which may be 0. */
+typedef struct {
+    uint32_t number;
+    uint32_t taken;
+    uint32_t complete;
+    uint32_t count;
+} rb_console;
+
 /* Writes a fresh bridge into the whole block. Returns 0 or 9; the count is 0. */
 rb_result rb_setup(uint8_t *block, size_t block_len, uint32_t ports, const uint8_t *address, size_t address_len);
 
@@ -132,6 +145,16 @@ rb_result rb_tally_event(rb_case *cases, size_t count, uint8_t *ended, uint32_t 
 
 /* Counts the classes of a run, ended or not. Returns 0 or 15. */
 rb_report rb_tally_report(const rb_case *cases, size_t count, uint8_t ended);
+
+/* Takes octets of a chunk, which may have none, from a serial console: messages of at most 1,472 octets, each in a frame of 7F (hex), 00, 02, its length
+ * in two octets, and itself. `state` has 1,477 octets, all 0 for a stream that begins; between two calls the host keeps it as it is (docs/LAYOUT.md).
+ * A call stops after one message: it stands at the start of the room, and the octets behind the first `taken` of the chunk are offered again.
+ * Returns 0, 1, 21 or 22. Octets up to the wrong one are taken with 21 and 22, and the state keeps the number: later calls take none and return it
+ * again, until a reset. 1, and 21 for a saved state that no stream leaves or that has another length, take none and write no octet. */
+rb_console rb_console_take(uint8_t *state, size_t state_len, const uint8_t *chunk, size_t chunk_len, uint8_t *room, size_t room_len);
+
+/* Makes a state fresh, whatever it held. Returns 0, or 21 where it has not 1,477 octets; the count is 0. */
+rb_result rb_console_reset(uint8_t *state, size_t state_len);
 
 #ifdef __cplusplus
 }
