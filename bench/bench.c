@@ -4,10 +4,10 @@
  *
  * bench/run builds and starts this program; docs/PERFORMANCE.md tells how to read what it prints. */
 #define _DEFAULT_SOURCE
-#include <time.h>
-
 #include "agent.h"
+#include "clock.h"
 #include "stack.h"
+#include "walks.h"
 #include "workload.h"
 
 enum { ROUNDS = 21, BATCH_NANOSECONDS = 1000000, TRIPS = 200, LINE = 96 };
@@ -76,14 +76,6 @@ static uint8_t rooms[IMPLEMENTATIONS][RB_MESSAGE_MAX];
 /* Errands by kind and number of bindings, then the library's own. */
 enum { SNMP_GET_1, SNMP_NEXT_1, SNMP_GET_16, SNMP_NEXT_16, SNMP_ERRANDS, LIBRARY_ERRAND = SNMP_ERRANDS, ERRANDS };
 static struct errand errands[ERRANDS];
-
-static uint64_t now(clockid_t clock)
-{
-    struct timespec time;
-
-    clock_gettime(clock, &time);
-    return (uint64_t)time.tv_sec * 1000000000u + (uint64_t)time.tv_nsec;
-}
 
 static int ascending(const void *a, const void *b)
 {
@@ -351,6 +343,7 @@ int main(int argc, char **argv)
     print_table();
     print_errands();
     print_depth();
+    print_walks(&bridges[BRIDGES - 1]);
     print_rules();
     return 0;
 }

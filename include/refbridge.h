@@ -26,8 +26,9 @@ extern "C" {
 #define RB_ADDRESS_SIZE 6u     /* a bridge's address */
 #define RB_BINDINGS_MAX 16u    /* bindings in a message */
 #define RB_PORTS_MAX    64u    /* ports of a bridge */
+#define RB_ENTRY_SIZE   20u    /* an entry of the list that a comparison of two walks writes */
 
-/* Numbered returns. For 1 to 10 the block and the answer room keep every octet, and the count is 0. */
+/* Numbered returns. For 1 to 10 the block and the answer room keep every octet, and the count is 0; 24 and 25 are of a comparison of two walks. */
 enum rb_number {
     RB_ANSWERED = 0,          /* the call did its work */
     RB_ROOM_SHORT = 1,        /* the answer room has under 1,472 octets */
@@ -39,7 +40,9 @@ enum rb_number {
     RB_HEAD_WRONG = 7,        /* the kind is not 0, 1 or 3, or status or index is not 0 */
     RB_TOO_MANY_BINDINGS = 8, /* there is a 17th binding */
     RB_SETUP_REFUSED = 9,     /* set-up: block not 32,768 octets, ports not 1 to 64, or address not 6 octets */
-    RB_TIMER_RANGE = 10       /* a timer conversion is out of range */
+    RB_TIMER_RANGE = 10,      /* a timer conversion is out of range */
+    RB_NOT_ASCENDING = 24,    /* a walk's names do not ascend strictly */
+    RB_LIST_SHORT = 25        /* the list has not room for all entries of a comparison */
 };
 
 /* Kinds of message: the one octet of field 01. */
@@ -94,6 +97,44 @@ rb_result rb_answer(uint8_t *block, size_t block_len, const uint8_t *request, si
  * Returns 0 or 10. */
 rb_result rb_to_256ths(uint32_t hundredths);
 rb_result rb_to_hundredths(uint32_t ticks);
+
+/* Whose walk it is. */
+enum rb_side { RB_REFERENCE = 1, RB_DEVICE = 2 };
+
+/* What a comparison of two walks returns. After a refusal, `side` is the walk at fault (with 25 the reference's), `offset` goes with 4 to 6 and counts from
+ * that walk's first octet, and all else is 0. */
+typedef struct {
+    uint32_t number;         /* 0, 4, 5, 6, 24 or 25 */
+    uint32_t side;           /* one of rb_side: whose tail it is */
+    uint64_t offset;         /* 0 unless the number is 4, 5 or 6 */
+    uint64_t tail_at;        /* where in that walk the unread tail starts */
+    uint64_t tail_len;       /* how many octets it has */
+    uint64_t reference_only; /* entries of each kind */
+    uint64_t switch_only;
+    uint64_t differing;
+} rb_walks;
+
+/* The kind of an entry. */
+enum rb_walk_kind { RB_REFERENCE_ONLY = 1, RB_DEVICE_ONLY = 2, RB_DIFFERING = 3 };
+
+/* Where the parts of an entry stand: kind, members of the reference's port set and of the device's, and the first port that is in one of them only, an
+ * octet each (the last three are 0 unless both contents are port sets); then the offset of the binding in the reference walk and in the device walk, eight
+ * octets each, most significant first, 0 where it is not in that walk. */
+enum rb_walk_entry {
+    RB_ENTRY_KIND = 0,
+    RB_ENTRY_REFERENCE_MEMBERS = 1,
+    RB_ENTRY_DEVICE_MEMBERS = 2,
+    RB_ENTRY_FIRST_PORT = 3,
+    RB_ENTRY_REFERENCE_AT = 4,
+    RB_ENTRY_DEVICE_AT = 12
+};
+
+/* Compares two walks: bindings (fields 10 hex) one after the other with contents 21 to 24, their names strictly ascending. The list gets an entry for each
+ * instance that is in one walk only or whose contents differ, ascending by name; its other octets keep theirs. The comparison stops where one walk is used
+ * up: what is left of the other is the tail, which is not listed; where both end together the tail is the reference's and empty. Strings of up to 8 octets
+ * under a ports column are port sets: they differ when their members do. Returns 0, 4 to 6, 24 or 25; a refusal writes no octet. The walks and the list do
+ * not overlap; the two walks may be one. */
+rb_walks rb_compare_walks(const uint8_t *reference, size_t reference_len, const uint8_t *device, size_t device_len, uint8_t *list, size_t list_len);
 
 #ifdef __cplusplus
 }

@@ -1,0 +1,145 @@
+// One turn of the comparison: a binding of each walk.
+ghost use mathlib.Core.Path.{_≡_};
+ghost use Prim.Native.Nat.{_+_, _≤_};
+ghost use mathlib.Core.Bool.{cond};
+ghost use lib.Dec.{eqb};
+ghost use lib.ListN.{length};
+ghost use Rattle.octets.specs.Parts.{patch};
+ghost use Rattle.walks.specs.Walk.{item};
+ghost use Rattle.walks.specs.Turn.{turnOf, turnAt, noTurn, turnOctets};
+use super::contrast::contrasts;
+use names::order::Relation;
+use names::order::relate;
+use super::walk::SET;
+use message::request::Binding;
+use message::request::Step;
+use message::request::binding_at;
+use octets::numbers::put;
+use octets::parts::copy_in;
+
+// The entry that is found, kind 0 for none, and where the reference's and the device's walk go on.
+pub struct Turn {
+    pub kind: u8,
+    pub ours: u8,
+    pub theirs: u8,
+    pub first: u8,
+    pub reference: usize,
+    pub device: usize,
+    pub next: usize,
+    pub other: usize,
+}
+
+fn no_turn(s: &[u8], t: &[u8]) -> Turn
+    ensures { λ r. ⌜ r ≡ noTurn (now (s .entry)) (now (t .entry)) ⌝ }
+{
+    Turn {
+        kind: 0,
+        ours: 0,
+        theirs: 0,
+        first: 0,
+        reference: 0,
+        device: 0,
+        next: s.len(),
+        other: t.len(),
+    }
+}
+
+// The turn at binding a, which starts at i, and binding b, which starts at j.
+fn turn_of(
+    s: &[u8],
+    i: usize,
+    a: Binding,
+    next: usize,
+    t: &[u8],
+    j: usize,
+    b: Binding,
+    other: usize,
+) -> Turn
+    requires { ⌜ (a .name + a .size ≤ length (now s)) × (a .content + a .len ≤ length (now s)) × (b .name + b .size ≤ length (now t)) × (b .content + b .len ≤ length (now t)) ⌝ }
+    ensures { λ r. ⌜ r ≡ turnOf (item (now (s .entry)) i a) next (item (now (t .entry)) j b) other ⌝ }
+{
+    let n = a.name;
+    let m = b.name;
+    let p = n + a.size;
+    let q = m + b.size;
+    match relate(&s[n..p], &t[m..q]) {
+        Relation::Lower => Turn {
+            kind: 1,
+            ours: 0,
+            theirs: 0,
+            first: 0,
+            reference: i,
+            device: 0,
+            next: next,
+            other: j,
+        },
+        Relation::Same => {
+            let k = a.content;
+            let l = b.content;
+            let u = k + a.len;
+            let v = l + b.len;
+            let c = contrasts(&s[n..p], a.tag, &s[k..u], b.tag, &t[l..v]);
+            Turn {
+                kind: c.kind,
+                ours: c.ours,
+                theirs: c.theirs,
+                first: c.first,
+                reference: i,
+                device: j,
+                next: next,
+                other: other,
+            }
+        }
+        Relation::Higher => Turn {
+            kind: 2,
+            ours: 0,
+            theirs: 0,
+            first: 0,
+            reference: 0,
+            device: j,
+            next: i,
+            other: other,
+        },
+    }
+}
+
+// The turn at offset i of the reference's walk and offset j of the device's.
+pub fn turn_at(s: &[u8], i: usize, t: &[u8], j: usize) -> Turn
+    ensures { λ r. ⌜ r ≡ turnAt (now (s .entry)) i (now (t .entry)) j ⌝ }
+{
+    match binding_at(SET, s, i) {
+        Step::Refused(_) => no_turn(s, t),
+        Step::Bound { binding, next } => match binding_at(SET, t, j) {
+            Step::Refused(_) => no_turn(s, t),
+            Step::Bound {
+                binding: second,
+                next: other,
+            } => turn_of(s, i, binding, next, t, j, second, other),
+        },
+    }
+}
+
+// 1 where the kinds are equal, else 0.
+pub fn is_kind(kind: u8, k: u8) -> usize
+    ensures { λ r. ⌜ r ≡ cond (eqb kind k) 1 0 ⌝ }
+{
+    if kind == k {
+        return 1;
+    }
+    0
+}
+
+// Puts the entry of a turn, if there is one, into the list from index at on, and tells where the next one goes.
+pub fn put_entry(list: &mut [u8], at: usize, t: Turn) -> usize
+    requires { ⌜ at + length (turnOctets t) ≤ length (now list) ⌝ }
+    ensures { λ r. ⌜ (r ≡ at + length (turnOctets t)) × (now (list .exit) ≡ patch (now (list .entry)) at (turnOctets t)) ⌝ }
+{
+    if t.kind == 0 {
+        return at;
+    }
+    let head = [t.kind, t.ours, t.theirs, t.first];
+    copy_in(list, at, &head);
+    put(list, at + 4, 8, t.reference as u64);
+    put(list, at + 12, 8, t.device as u64);
+    at + 20
+}
