@@ -10,10 +10,10 @@ use native.Mathlib.Omega.{arith}
 use borrow.Author.Tests.{eq-eqb, eqb-true, eqb-false, le-leb}
 use lib.ListN.{length, getD, drop, length-drop}
 use lib.Seq.{length-take-le, getD-append-add}
-use lib.Dec.{eqb}
+use lib.Dec.{leb, eqb}
 use Rattle.octets.specs.Parts.{part, same}
 use Rattle.octets.specs.Ports.{member, setOf}
-use Rattle.octets.proofs.PartLaws.{same-refl, eqb-swap, same-swap}
+use Rattle.octets.proofs.PartLaws.{same-refl, same-eq, eqb-swap, same-swap}
 use Rattle.octets.proofs.PortLaws.{members-same, set-lt, set-zeros}
 use Rattle.names.specs.Order.{below, isPrefix}
 use Rattle.names.specs.Table.{objectAt, typeName, placeOf}
@@ -27,9 +27,9 @@ use Rattle.message.proofs.BindingLaws.{Placed}
 use Rattle.message.proofs.FormLaws.{clash}
 use Rattle.walks.specs.Walk.{Item, item, nameIn, Walk, faulty, before, itemThen, notAscending, walkFrom, walkOf}
 use Rattle.walks.specs.Contrast.{isPorts, portsPlace, shortString, portsColumn, portSets}
-use Rattle.walks.specs.Merge.{Entry, onlyReference, onlyDevice, differing, Merged, merged, listed, listedIf, merge, contrastOf, entryOctets, listOctets, kindOf}
-use Rattle.walks.specs.Compare.{compared, listedIn, tailed}
-use Rattle.walks.specs.Theorems.{In, AllAbove, Ascending, names, entryName, Unnamed, WalksAscend, ReadWhole, FirstAscends, EntriesAscend, TotalsAdd, KindsWritten, OneTail, TailsEnd, OnlyInReference, OnlyInDevice, swapEntry, Exchanged, DifferingInBoth, EqualWalks, UnderPortsColumn, PortsDiffer, MissingOctets}
+use Rattle.walks.specs.Merge.{Entry, onlyReference, onlyDevice, differing, Merged, merged, listed, listedIf, merge, contrastOf, entryOctets, listOctets, kindOf, total}
+use Rattle.walks.specs.Compare.{Outcome, refusedWith, startOf, outlasts, completed, compared, listedIn, tailed}
+use Rattle.walks.specs.Theorems.{In, AllAbove, Ascending, names, entryName, Unnamed, WalksAscend, ReadWhole, FirstAscends, EntriesAscend, TotalsAdd, KindsWritten, OneTail, TailsEnd, OnlyInReference, OnlyInDevice, swapEntry, Exchanged, Swaps, CallExchanged, DifferingInBoth, EqualWalks, UnderPortsColumn, PortsDiffer, OthersDiffer, MissingOctets}
 use Rattle.walks.proofs.WalkLaws.{stands, from-end, from-step}
 use Rattle.names.proofs.RelationLaws.{related-below, related-same, related-above}
 use Rattle.walks.proofs.MergeLaws.{kindBy, kind-is, merge-none, merge-alone, merge-below, merge-same, merge-above, length-entry, totals-add}
@@ -257,6 +257,64 @@ exchanged =
     (λ x xs y ys e k f. let q : contrastOf y x .kind ≡ 3 = kind-swap x y e ∙ k in same-back x y xs ys e ∙ rw q (ap (listed (differing y x)) f))
     (λ x xs y ys h f. merge-below y ys x xs (related-below (y .name) (x .name) h) ∙ ap (listed (onlyReference y)) f)
 
+-- an exchanged list has as many entries, and the totals of one side only exchanged
+length-swapped : (es : List Entry) → length (map swapEntry es) ≡ length es
+length-swapped [] = refl
+length-swapped (e ∷ es) = ap suc (length-swapped es)
+
+module _ where
+  abbrev TotalsSwap : List Entry → Type 0
+  TotalsSwap es = (total 1 (map swapEntry es) ≡ total 2 es) × (total 2 (map swapEntry es) ≡ total 1 es) × (total 3 (map swapEntry es) ≡ total 3 es)
+
+  totals-swap : (es : List Entry) → TotalsSwap es
+  unfolding total
+  totals-swap [] = (refl, refl, refl)
+  totals-swap (onlyReference x ∷ es) = let i = totals-swap es in (i .0, ap suc (i .1), i .2)
+  totals-swap (onlyDevice y ∷ es) = let i = totals-swap es in (ap suc (i .0), i .1, i .2)
+  totals-swap (differing x y ∷ es) = let i = totals-swap es in (i .0, i .1, ap suc (i .2))
+
+-- the outcomes with a tail, by what is left of the two walks
+module _ (s t list : List ℕ) (m m′ : Merged) (e : m′ ≡ swapped m) where
+  totals-of : TotalsSwap (m .entries)
+  totals-of = totals-swap (m .entries)
+
+  swaps-with : (a b n k l : ℕ) → k ≡ l → (side : ℕ) → Swaps (completed side a l list m) (completed n b k list m′)
+  swaps-with a b n k l f side =
+      let w = totals-of in
+      record {
+        number = refl;
+        tailLen = f;
+        referenceOnly = rw e (w .0);
+        switchOnly = rw e (w .1);
+        differing = rw e (w .2);
+      }
+
+  tails-swap : (os ts : List Item) → (os ≡ []) ⊎ (ts ≡ [])
+      → Swaps
+      (cond (outlasts ts) (completed 2 (startOf t ts) (length t - startOf t ts) list m) (completed 1 (startOf s os) (length s - startOf s os) list m))
+      (cond (outlasts os) (completed 2 (startOf s os) (length s - startOf s os) list m′) (completed 1 (startOf t ts) (length t - startOf t ts) list m′))
+  tails-swap [] [] o = swaps-with (length s) (length t) 1 (length t - length t) (length s - length s) (omega arith) 1
+  tails-swap [] (y ∷ ys) o = swaps-with (y .at) (y .at) 1 (length t - y .at) (length t - y .at) refl 2
+  tails-swap (x ∷ xs) [] o = swaps-with (x .at) (x .at) 2 (length s - x .at) (length s - x .at) refl 1
+  tails-swap (x ∷ xs) (y ∷ ys) (inl q) = clash (cc)
+  tails-swap (x ∷ xs) (y ∷ ys) (inr q) = clash (cc)
+
+swaps-listed : (s t list : List ℕ) (m m′ : Merged) → m′ ≡ swapped m → (m .ours ≡ []) ⊎ (m .theirs ≡ []) → Swaps (listedIn s t list m) (listedIn t s list m′)
+unfolding listedIn tailed
+swaps-listed s t list m m′ e o =
+    let l : length (m′ .entries) ≡ length (m .entries) = ap (λ (n : Merged). length (n .entries)) e ∙ length-swapped (m .entries) in
+    let p : m′ .ours ≡ m .theirs = ap (λ (n : Merged). n .ours) e in
+    let q : m′ .theirs ≡ m .ours = ap (λ (n : Merged). n .theirs) e in
+    rw (l, p, q) (go (leb (20 * length (m .entries)) (length list)) (tails-swap s t list m m′ e (m .ours) (m .theirs) o))
+  where
+    go : (b : Bool) {u v : Outcome} → Swaps u v → Swaps (cond b u (refusedWith 25 1 0 list)) (cond b v (refusedWith 25 1 0 list))
+    go true w = w
+    go false w = record { number = refl; tailLen = refl; referenceOnly = refl; switchOnly = refl; differing = refl }
+
+pub call-exchanged : CallExchanged
+unfolding compared
+call-exchanged s t list xs ys e f = rw (e, f) (swaps-listed s t list (merge xs ys) (merge ys xs) (exchanged xs ys) (one-tail xs ys))
+
 swap-in : (z : Item) (es : List Entry) → In (onlyDevice z) es → In (onlyReference z) (map swapEntry es)
 swap-in z [] i = absurd i
 swap-in z (e ∷ es) (inl q) = inl (ap swapEntry q)
@@ -307,6 +365,15 @@ ports-differ name tag us tag′ vs h o q =
     go : (t : Bool) → eqb (setOf us) (setOf vs) ≡ t → (kindBy true t (eqb tag tag′ && same us vs) ≡ 0) ↔ ((p : ℕ) → member 64 (setOf us) p ≡ member 64 (setOf vs) p)
     go true e = (λ _ p. ap (λ (n : ℕ). member 64 n p) (eqb-true (setOf us) (setOf vs) e), λ _. refl)
     go false e = (λ k. absurd (let z : ⊥ = omega arith in z), λ m. absurd (eqb-false (setOf us) (setOf vs) e (members-same 64 (setOf us) (setOf vs) (set-lt us o) (set-lt vs q) m)))
+
+pub others-differ : OthersDiffer
+others-differ name tag us tag′ vs h = rw (kind-is name tag us tag′ vs, h) (go (eqb tag tag′) refl (same us vs) refl)
+  where
+    go : (t : Bool) → eqb tag tag′ ≡ t → (u : Bool) → same us vs ≡ u → (kindBy false (eqb (setOf us) (setOf vs)) (t && u) ≡ 0) ↔ ((tag ≡ tag′) × (us ≡ vs))
+    go true e true f = (λ _. (eqb-true tag tag′ e, same-eq us vs f), λ _. refl)
+    go true e false f =
+        (λ k. absurd (let z : ⊥ = omega arith in z), λ q. absurd (false≢true (sym f ∙ ap (same us) (sym (q .1)) ∙ same-refl us)))
+    go false e u f = (λ k. absurd (let z : ⊥ = omega arith in z), λ q. absurd (eqb-false tag tag′ e (q .0)))
 
 pub missing-octets : MissingOctets
 missing-octets us n = set-zeros us n

@@ -7,6 +7,7 @@ ghost use lib.ListN.{length};
 ghost use Rattle.octets.specs.Parts.{patch};
 ghost use Rattle.walks.specs.Walk.{item};
 ghost use Rattle.walks.specs.Turn.{turnOf, turnAt, noTurn, turnOctets};
+use super::contrast::NO_ENTRY;
 use super::contrast::contrasts;
 use names::order::Relation;
 use names::order::relate;
@@ -16,6 +17,18 @@ use message::request::Step;
 use message::request::binding_at;
 use octets::numbers::put;
 use octets::parts::copy_in;
+
+// The kinds of an entry of one side.
+pub const REFERENCE_ONLY: u8 = 1;
+
+pub const DEVICE_ONLY: u8 = 2;
+
+// The octets of an entry, and where the two offsets stand in it.
+pub const ENTRY: usize = 20;
+
+const REFERENCE_AT: usize = 4;
+
+const DEVICE_AT: usize = 12;
 
 // The entry that is found, kind 0 for none, and where the reference's and the device's walk go on.
 pub struct Turn {
@@ -33,7 +46,7 @@ fn no_turn(s: &[u8], t: &[u8]) -> Turn
     ensures { λ r. ⌜ r ≡ noTurn (now (s .entry)) (now (t .entry)) ⌝ }
 {
     Turn {
-        kind: 0,
+        kind: NO_ENTRY,
         ours: 0,
         theirs: 0,
         first: 0,
@@ -64,7 +77,7 @@ fn turn_of(
     let q = m + b.size;
     match relate(&s[n..p], &t[m..q]) {
         Relation::Lower => Turn {
-            kind: 1,
+            kind: REFERENCE_ONLY,
             ours: 0,
             theirs: 0,
             first: 0,
@@ -91,7 +104,7 @@ fn turn_of(
             }
         }
         Relation::Higher => Turn {
-            kind: 2,
+            kind: DEVICE_ONLY,
             ours: 0,
             theirs: 0,
             first: 0,
@@ -134,12 +147,12 @@ pub fn put_entry(list: &mut [u8], at: usize, t: Turn) -> usize
     requires { ⌜ at + length (turnOctets t) ≤ length (now list) ⌝ }
     ensures { λ r. ⌜ (r ≡ at + length (turnOctets t)) × (now (list .exit) ≡ patch (now (list .entry)) at (turnOctets t)) ⌝ }
 {
-    if t.kind == 0 {
+    if t.kind == NO_ENTRY {
         return at;
     }
     let head = [t.kind, t.ours, t.theirs, t.first];
     copy_in(list, at, &head);
-    put(list, at + 4, 8, t.reference as u64);
-    put(list, at + 12, 8, t.device as u64);
-    at + 20
+    put(list, at + REFERENCE_AT, 8, t.reference as u64);
+    put(list, at + DEVICE_AT, 8, t.device as u64);
+    at + ENTRY
 }
