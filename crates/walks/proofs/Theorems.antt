@@ -262,16 +262,15 @@ length-swapped : (es : List Entry) → length (map swapEntry es) ≡ length es
 length-swapped [] = refl
 length-swapped (e ∷ es) = ap suc (length-swapped es)
 
-module _ where
-  abbrev TotalsSwap : List Entry → Type 0
-  TotalsSwap es = (total 1 (map swapEntry es) ≡ total 2 es) × (total 2 (map swapEntry es) ≡ total 1 es) × (total 3 (map swapEntry es) ≡ total 3 es)
+abbrev TotalsSwap : List Entry → Type 0
+TotalsSwap es = (total 1 (map swapEntry es) ≡ total 2 es) × (total 2 (map swapEntry es) ≡ total 1 es) × (total 3 (map swapEntry es) ≡ total 3 es)
 
-  totals-swap : (es : List Entry) → TotalsSwap es
-  unfolding total
-  totals-swap [] = (refl, refl, refl)
-  totals-swap (onlyReference x ∷ es) = let i = totals-swap es in (i .0, ap suc (i .1), i .2)
-  totals-swap (onlyDevice y ∷ es) = let i = totals-swap es in (ap suc (i .0), i .1, i .2)
-  totals-swap (differing x y ∷ es) = let i = totals-swap es in (i .0, i .1, ap suc (i .2))
+totals-swap : (es : List Entry) → TotalsSwap es
+unfolding total
+totals-swap [] = (refl, refl, refl)
+totals-swap (onlyReference x ∷ es) = let i = totals-swap es in (omega (arith, i .0), omega (arith, i .1), omega (arith, i .2))
+totals-swap (onlyDevice y ∷ es) = let i = totals-swap es in (omega (arith, i .0), omega (arith, i .1), omega (arith, i .2))
+totals-swap (differing x y ∷ es) = let i = totals-swap es in (omega (arith, i .0), omega (arith, i .1), omega (arith, i .2))
 
 -- the outcomes with a tail, by what is left of the two walks
 module _ (s t list : List ℕ) (m m′ : Merged) (e : m′ ≡ swapped m) where

@@ -6,15 +6,15 @@ ghost use lib.Dec.{eqb};
 ghost use lib.ListN.{length};
 ghost use Rattle.octets.specs.Parts.{patch};
 ghost use Rattle.walks.specs.Walk.{item};
-ghost use Rattle.walks.specs.Turn.{turnOf, turnAt, noTurn, turnOctets};
+ghost use Rattle.walks.specs.Turn.{turned, turnOf, turnAt, noTurn, turnOctets};
 use super::contrast::NO_ENTRY;
 use super::contrast::contrasts;
-use names::order::Relation;
-use names::order::relate;
 use super::walk::SET;
 use message::request::Binding;
 use message::request::Step;
 use message::request::binding_at;
+use names::order::Relation;
+use names::order::relate;
 use octets::numbers::put;
 use octets::parts::copy_in;
 
@@ -42,19 +42,26 @@ pub struct Turn {
     pub other: usize,
 }
 
-fn no_turn(s: &[u8], t: &[u8]) -> Turn
-    ensures { λ r. ⌜ r ≡ noTurn (now (s .entry)) (now (t .entry)) ⌝ }
+// A turn without a port set.
+fn one_sided(kind: u8, reference: usize, device: usize, next: usize, other: usize) -> Turn
+    ensures { λ r. ⌜ r ≡ turned kind 0 0 0 reference device next other ⌝ }
 {
     Turn {
-        kind: NO_ENTRY,
+        kind: kind,
         ours: 0,
         theirs: 0,
         first: 0,
-        reference: 0,
-        device: 0,
-        next: s.len(),
-        other: t.len(),
+        reference: reference,
+        device: device,
+        next: next,
+        other: other,
     }
+}
+
+fn no_turn(s: &[u8], t: &[u8]) -> Turn
+    ensures { λ r. ⌜ r ≡ noTurn (now (s .entry)) (now (t .entry)) ⌝ }
+{
+    one_sided(NO_ENTRY, 0, 0, s.len(), t.len())
 }
 
 // The turn at binding a, which starts at i, and binding b, which starts at j.
@@ -76,16 +83,7 @@ fn turn_of(
     let p = n + a.size;
     let q = m + b.size;
     match relate(&s[n..p], &t[m..q]) {
-        Relation::Lower => Turn {
-            kind: REFERENCE_ONLY,
-            ours: 0,
-            theirs: 0,
-            first: 0,
-            reference: i,
-            device: 0,
-            next: next,
-            other: j,
-        },
+        Relation::Lower => one_sided(REFERENCE_ONLY, i, 0, next, j),
         Relation::Same => {
             let k = a.content;
             let l = b.content;
@@ -103,16 +101,7 @@ fn turn_of(
                 other: other,
             }
         }
-        Relation::Higher => Turn {
-            kind: DEVICE_ONLY,
-            ours: 0,
-            theirs: 0,
-            first: 0,
-            reference: 0,
-            device: j,
-            next: i,
-            other: other,
-        },
+        Relation::Higher => one_sided(DEVICE_ONLY, 0, j, i, other),
     }
 }
 
