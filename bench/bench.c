@@ -8,6 +8,7 @@
 #include "figures.h"
 #include "stack.h"
 #include "tally.h"
+#include "walks.h"
 #include "workload.h"
 
 enum { BATCH_NANOSECONDS = 1000000, TRIPS = 200, LINE = 96 };
@@ -327,6 +328,7 @@ int main(int argc, char **argv)
     print_table();
     print_errands();
     print_depth();
+    print_walks(&bridges[BRIDGES - 1]);
     print_rules();
     print_tallies();
     return 0;

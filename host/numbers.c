@@ -13,6 +13,8 @@ static const char *const refusals[] = {
     [RB_TOO_MANY_BINDINGS] = "17th binding",
     [RB_SETUP_REFUSED] = "set-up refused",
     [RB_TIMER_RANGE] = "timer out of range",
+    [RB_NOT_ASCENDING] = "walk not strictly ascending",
+    [RB_LIST_SHORT] = "list longer than its room",
 };
 
 static const struct {

@@ -3,7 +3,7 @@
  * The caller lends every octet that the library works on: a block that holds one bridge, a request, and a room for the answer. The library keeps
  * nothing between calls, takes no memory, and has no globals, so calls on different blocks may run at the same time.
  *
- * What every call does is an equation with a definition (in the specs of the crates answer, block, timers, tally and console), proved for all octets, lengths
+ * What every call does is an equation with a definition (in the specs of the crates answer, block, timers, tally, console and walks), proved for all octets, lengths
  * and numbers. What the caller must still promise, because C cannot show it to the library:
  *   - each pointer is valid for as many octets as the length beside it says: `block`, `state` and `room` to read and write, the others to read; a
  *     pointer is not NULL, not even with the length 0;
@@ -29,6 +29,7 @@ extern "C" {
 #define RB_PORTS_MAX    64u    /* ports of a bridge */
 #define RB_CASES_MAX    65535u /* cases of a run */
 #define RB_CONSOLE_SIZE 1477u  /* a saved state of the serial console */
+#define RB_ENTRY_SIZE   20u    /* an entry of the list that a comparison of two walks writes */
 
 /* Numbered returns. A refusal keeps every octet that is lent, and every other result is 0, but for the offset of 4 to 8. With 21 and 22 the room is kept too; a
  * stream that such a number ends keeps it in its saved state. */
@@ -50,7 +51,9 @@ enum rb_number {
     RB_RUN_ENDED = 14,        /* any event after end */
     RB_RUN_NOT_LEGAL = 15,    /* the list is too long, not ascending, or in a state that no events lead to */
     RB_CONSOLE_WRONG = 21,    /* console: a wrong header or inner length, or a saved state that no stream leaves */
-    RB_CONSOLE_LONG = 22      /* console: a message length over 1,472 */
+    RB_CONSOLE_LONG = 22,     /* console: a message length over 1,472 */
+    RB_NOT_ASCENDING = 24,    /* a walk's names do not ascend strictly */
+    RB_LIST_SHORT = 25        /* the list has not room for all entries of a comparison */
 };
 
 /* Kinds of message: the one octet of field 01. */
@@ -155,6 +158,44 @@ rb_console rb_console_take(uint8_t *state, size_t state_len, const uint8_t *chun
 
 /* Makes a state fresh, whatever it held. Returns 0, or 21 where it has not 1,477 octets; the count is 0. */
 rb_result rb_console_reset(uint8_t *state, size_t state_len);
+
+/* Whose walk it is. */
+enum rb_side { RB_REFERENCE = 1, RB_DEVICE = 2 };
+
+/* What a comparison of two walks returns. After a refusal, `side` is the walk at fault (with 25 the reference's), `offset` goes with 4 to 6 and counts from
+ * that walk's first octet, and all else is 0. */
+typedef struct {
+    uint32_t number;         /* 0, 4, 5, 6, 24 or 25 */
+    uint32_t side;           /* one of rb_side: whose tail it is */
+    uint64_t offset;         /* 0 unless the number is 4, 5 or 6 */
+    uint64_t tail_at;        /* where in that walk the unread tail starts */
+    uint64_t tail_len;       /* how many octets it has */
+    uint64_t reference_only; /* entries of each kind */
+    uint64_t switch_only;
+    uint64_t differing;
+} rb_walks;
+
+/* The kind of an entry. */
+enum rb_walk_kind { RB_REFERENCE_ONLY = 1, RB_DEVICE_ONLY = 2, RB_DIFFERING = 3 };
+
+/* Where the parts of an entry stand: kind, members of the reference's port set and of the device's, and the first port that is in one of them only, an
+ * octet each (the last three are 0 unless both contents are port sets); then the offset of the binding in the reference walk and in the device walk, eight
+ * octets each, most significant first, 0 where it is not in that walk. */
+enum rb_walk_entry {
+    RB_ENTRY_KIND = 0,
+    RB_ENTRY_REFERENCE_MEMBERS = 1,
+    RB_ENTRY_DEVICE_MEMBERS = 2,
+    RB_ENTRY_FIRST_PORT = 3,
+    RB_ENTRY_REFERENCE_AT = 4,
+    RB_ENTRY_DEVICE_AT = 12
+};
+
+/* Compares two walks: bindings (fields 10 hex) one after the other with contents 21 to 24, their names strictly ascending. The list gets an entry for each
+ * instance that is in one walk only or whose contents differ, ascending by name; its other octets keep theirs. The comparison stops where one walk is used
+ * up: what is left of the other is the tail, which is not listed; where both end together the tail is the reference's and empty. Strings of up to 8 octets
+ * under a ports column are port sets: they differ when their members do. Returns 0, 4 to 6, 24 or 25; a refusal writes no octet. The walks and the list do
+ * not overlap; the two walks may be one. */
+rb_walks rb_compare_walks(const uint8_t *reference, size_t reference_len, const uint8_t *device, size_t device_len, uint8_t *list, size_t list_len);
 
 #ifdef __cplusplus
 }

@@ -12,5 +12,6 @@ pub mod shrink;
 pub mod step;
 pub mod sweeps;
 pub mod tally;
+pub mod walks;
 
 pub use model::bridge::Bridge;
