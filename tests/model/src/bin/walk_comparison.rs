@@ -1,25 +1,64 @@
 //! Compares random pairs of walks by the library and by the model: number, side, offset, tail, totals and the whole list.
 //!
-//!     walk_comparison [--seed N] [--pairs N]
+//!     walk_comparison [--seed N] [--pairs N] [--mutants]
+//!
+//! With --mutants a copy of the model with a seeded fault stands in the place of the library, one after the other: each must be found.
 
 use refbridge_model::random::Random;
 use refbridge_model::walks::compare::{compare, Walks, LIST_SHORT};
 use refbridge_model::walks::generate::{list_length, pair};
-use refbridge_model::walks::library::{linked, Compare};
+use refbridge_model::walks::library::{linked, Compare, MUTANTS};
 use refbridge_model::walks::met::Met;
 use std::process::ExitCode;
 
-const USAGE: &str = "usage: walk_comparison [--seed N] [--pairs N]";
+const USAGE: &str = "usage: walk_comparison [--seed N] [--pairs N] [--mutants]";
+
+struct Options {
+    seed: u64,
+    pairs: u64,
+    mutants: bool,
+}
 
 fn main() -> ExitCode {
-    let Some((seed, pairs)) = read_options() else {
+    let Some(options) = read_options() else {
         eprintln!("{USAGE}");
         return ExitCode::from(2);
     };
-    let Some(library) = linked() else {
-        eprintln!("walk_comparison: built without the library");
-        return ExitCode::from(2);
-    };
+    if options.mutants {
+        return run_mutants(&options);
+    }
+    match linked() {
+        Some(library) => run(library, &options),
+        None => {
+            eprintln!("walk_comparison: built without the library");
+            ExitCode::from(2)
+        }
+    }
+}
+
+/// Every mutant must be told from the model.
+fn run_mutants(options: &Options) -> ExitCode {
+    let mut missed = 0;
+    for (what, mutant) in MUTANTS {
+        let found = (0..options.pairs)
+            .find(|at| one_pair(*mutant, options.seed.wrapping_add(*at), &mut Met::default()).is_err());
+        match found {
+            Some(at) => println!("mutant ({what}): found at pair {}", at + 1),
+            None => {
+                missed += 1;
+                println!("mutant ({what}): NOT FOUND in {} pairs", options.pairs);
+            }
+        }
+    }
+    println!("{} mutants, {missed} not found", MUTANTS.len());
+    if missed == 0 && !MUTANTS.is_empty() {
+        ExitCode::SUCCESS
+    } else {
+        ExitCode::FAILURE
+    }
+}
+
+fn run(library: Compare, &Options { seed, pairs, .. }: &Options) -> ExitCode {
     let mut met = Met::default();
     for at in 0..pairs {
         if let Err(difference) = one_pair(library, seed.wrapping_add(at), &mut met) {
@@ -40,18 +79,18 @@ fn main() -> ExitCode {
     }
 }
 
-fn read_options() -> Option<(u64, u64)> {
-    let (mut seed, mut pairs) = (1, 1000);
+fn read_options() -> Option<Options> {
+    let mut options = Options { seed: 1, pairs: 1000, mutants: false };
     let mut words = std::env::args().skip(1);
     while let Some(word) = words.next() {
-        let number: u64 = words.next()?.parse().ok()?;
         match word.as_str() {
-            "--seed" => seed = number,
-            "--pairs" => pairs = number,
+            "--seed" => options.seed = words.next()?.parse().ok()?,
+            "--pairs" => options.pairs = words.next()?.parse().ok()?,
+            "--mutants" => options.mutants = true,
             _ => return None,
         }
     }
-    Some((seed, pairs))
+    Some(options)
 }
 
 fn one_pair(library: Compare, seed: u64, met: &mut Met) -> Result<(), String> {

@@ -117,6 +117,11 @@ fn damaged(random: &mut Random, draft: &Draft) -> Vec<u8> {
             _ => bindings[at + 1] = bindings[at],
         }
     }
+    let empty = (random.pick(&[0x20, 0x22, 0x30, 0x32]), Vec::new());
+    if !bindings.is_empty() && random.chance(20) {
+        let at = random.below(bindings.len());
+        bindings[at].1 = &empty;
+    }
     let mut walk = written(bindings);
     match random.below(5) {
         0 => walk.truncate(random.below(walk.len() + 1)),
