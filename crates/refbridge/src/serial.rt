@@ -2,7 +2,7 @@
 ghost use mathlib.Core.Path.{_≡_};
 ghost use Rattle.console.specs.Calls.{outcome, taking, resetting};
 use super::RbResult;
-use super::refusal;
+use super::numbered;
 use console::RbConsole;
 use console::reset;
 use console::take;
@@ -20,5 +20,5 @@ pub extern "C" fn rb_console_take(state: &mut [u8], chunk: &[u8], room: &mut [u8
 pub extern "C" fn rb_console_reset(state: &mut [u8]) -> RbResult
     ensures { λ r. ⌜ ((r .number, now (state .exit)) ≡ resetting (now (state .entry))) × (r .count ≡ 0) × (r .offset ≡ 0) ⌝ }
 {
-    refusal(reset(state))
+    numbered(reset(state))
 }
