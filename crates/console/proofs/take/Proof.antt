@@ -59,7 +59,7 @@ returns-3 c =
     let d4 = d3 .before in
     let d10 = d4 .before .before .before .before .before .before in
     let a = d10 .args in
-    rw (c .refusal3 .ensures) (take-again (a .state .now) (a .chunk .now) (a .room .now) (omega arith) (sym (d4 .is-left .ensures) ∙ not-false (d4 .is-left .result) (d3 .if2 .left)) (c .before .if3 .taken))
+    rw (c .refusal3 .ensures) (take-again (a .state .now) (a .chunk .now) (a .room .now) (omega arith) (sym (d4 .is-left .ensures) ∙ not-false (d4 .is-left .result) (d3 .if2 .left)) (omega (arith, c .before .if3 .taken)))
 
 be2-requires : tie.Need-be2-requires
 be2-requires c κs =
