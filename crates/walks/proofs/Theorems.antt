@@ -25,11 +25,11 @@ use Rattle.message.specs.Request.{bindingAt}
 use Rattle.message.specs.declared.request.Step.{Step}
 use Rattle.message.proofs.BindingLaws.{Placed}
 use Rattle.message.proofs.FormLaws.{clash}
-use Rattle.walks.specs.Walk.{Item, item, nameIn, Walk, faulty, before, itemThen, notAscending, walkFrom, walkOf}
+use Rattle.walks.specs.Walk.{Item, item, nameIn, Walk, faulty, whole, before, itemThen, notAscending, walkFrom, walkOf}
 use Rattle.walks.specs.Contrast.{isPorts, portsPlace, shortString, portsColumn, portSets}
 use Rattle.walks.specs.Merge.{Entry, onlyReference, onlyDevice, differing, Merged, merged, listed, listedIf, merge, contrastOf, entryOctets, listOctets, kindOf, total}
-use Rattle.walks.specs.Compare.{Outcome, refusedWith, startOf, outlasts, completed, compared, listedIn, tailed}
-use Rattle.walks.specs.Theorems.{In, AllAbove, Ascending, names, entryName, Unnamed, WalksAscend, ReadWhole, FirstAscends, EntriesAscend, TotalsAdd, KindsWritten, OneTail, TailsEnd, OnlyInReference, OnlyInDevice, swapEntry, Exchanged, Swaps, CallExchanged, DifferingInBoth, EqualWalks, UnderPortsColumn, PortsDiffer, OthersDiffer, MissingOctets}
+use Rattle.walks.specs.Compare.{Outcome, refusedWith, startOf, outlasts, completed, walkThen, compared, listedIn, tailed}
+use Rattle.walks.specs.Theorems.{In, AllAbove, Ascending, names, entryName, Unnamed, WalksAscend, ReadWhole, FirstAscends, EntriesAscend, TotalsAdd, KindsWritten, OneTail, TailsEnd, OnlyInReference, OnlyInDevice, swapEntry, Exchanged, Swaps, CallExchanged, RefusalKeeps, DifferingInBoth, EqualWalks, UnderPortsColumn, PortsDiffer, OthersDiffer, MissingOctets}
 use Rattle.walks.proofs.WalkLaws.{stands, from-end, from-step}
 use Rattle.names.proofs.RelationLaws.{related-below, related-same, related-above}
 use Rattle.walks.proofs.MergeLaws.{kindBy, kind-is, merge-none, merge-alone, merge-below, merge-same, merge-above, length-entry, totals-add}
@@ -313,6 +313,34 @@ swaps-listed s t list m m′ e o =
 pub call-exchanged : CallExchanged
 unfolding compared
 call-exchanged s t list xs ys e f = rw (e, f) (swaps-listed s t list (merge xs ys) (merge ys xs) (exchanged xs ys) (one-tail xs ys))
+
+-- a refusal writes nothing
+abbrev Keeps : List ℕ → Outcome → Type 0
+Keeps list o = (o .number ≡ 0) ⊎ (o .list ≡ list)
+
+listed-keeps : (s t list : List ℕ) (m : Merged) → Keeps list (listedIn s t list m)
+unfolding listedIn tailed
+listed-keeps s t list m =
+    let i : ℕ = startOf t (m .theirs) in
+    let j : ℕ = startOf s (m .ours) in
+    go (leb (20 * length (m .entries)) (length list)) (outlasts (m .theirs)) i (length t - i) j (length s - j)
+  where
+    go : (a b : Bool) (i k j l : ℕ) → Keeps list (cond a (cond b (completed 2 i k list m) (completed 1 j l list m)) (refusedWith 25 1 0 list))
+    go true true i k j l = inl refl
+    go true false i k j l = inl refl
+    go false b i k j l = inr refl
+
+pub refusal-keeps : RefusalKeeps
+unfolding compared
+refusal-keeps s t list = go (walkOf s) (walkOf t)
+  where
+    go : (u v : Walk)
+        → Keeps list
+        (walkThen u (λ r. refusedWith (r .number) 1 (r .at) list)
+        (λ xs. walkThen v (λ r. refusedWith (r .number) 2 (r .at) list) (λ ys. listedIn s t list (merge xs ys))))
+    go (faulty r) v = inr refl
+    go (whole xs) (faulty r) = inr refl
+    go (whole xs) (whole ys) = listed-keeps s t list (merge xs ys)
 
 swap-in : (z : Item) (es : List Entry) → In (onlyDevice z) es → In (onlyReference z) (map swapEntry es)
 swap-in z [] i = absurd i
