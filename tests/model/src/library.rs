@@ -43,6 +43,7 @@ mod archive {
     struct Result {
         number: u32,
         count: u32,
+        offset: u32,
     }
 
     #[link(name = "refbridge", kind = "static")]
