@@ -7,7 +7,7 @@
  * lengths and numbers. What the caller must still promise, because C cannot show it to the library:
  *   - each pointer is valid for as many octets as the length beside it says: `block` and `room` to read and write, the others to read; a pointer is
  *     not NULL, not even with the length 0;
- *   - block, request and room do not overlap, and neither do block and address;
+ *   - block, request and room do not overlap, and neither do block and address, nor datagram, message, community and room;
  *   - nothing else writes them during a call.
  */
 #ifndef REFBRIDGE_H
@@ -27,7 +27,7 @@ extern "C" {
 #define RB_BINDINGS_MAX 16u    /* bindings in a message */
 #define RB_PORTS_MAX    64u    /* ports of a bridge */
 
-/* Numbered returns. For 1 to 10 the block and the answer room keep every octet, and the count is 0. */
+/* Numbered returns. For every refusal the block and the answer room keep every octet, and the count is 0. */
 enum rb_number {
     RB_ANSWERED = 0,          /* the call did its work */
     RB_ROOM_SHORT = 1,        /* the answer room has under 1,472 octets */
@@ -39,7 +39,12 @@ enum rb_number {
     RB_HEAD_WRONG = 7,        /* the kind is not 0, 1 or 3, or status or index is not 0 */
     RB_TOO_MANY_BINDINGS = 8, /* there is a 17th binding */
     RB_SETUP_REFUSED = 9,     /* set-up: block not 32,768 octets, ports not 1 to 64, or address not 6 octets */
-    RB_TIMER_RANGE = 10       /* a timer conversion is out of range */
+    RB_TIMER_RANGE = 10,      /* a timer conversion is out of range */
+    RB_BER_BROKEN = 16,       /* a datagram: broken BER, octets left over, or a wrong tag other than a PDU's or a content's */
+    RB_VERSION_WRONG = 17,    /* a datagram: the version is not 1 (SNMPv2c) */
+    RB_PDU_NOT_TAKEN = 18,    /* a datagram: the call does not take this kind of PDU */
+    RB_NO_COUNTERPART = 19,   /* a number, content or name has no counterpart in the other form */
+    RB_DATAGRAM_LONG = 20     /* a datagram or a message, given or to be written, has over 1,472 octets */
 };
 
 /* Kinds of message: the one octet of field 01. */
@@ -96,6 +101,25 @@ rb_result rb_answer(uint8_t *block, size_t block_len, const uint8_t *request, si
  * Returns 0 or 10. */
 rb_result rb_to_256ths(uint32_t hundredths);
 rb_result rb_to_hundredths(uint32_t ticks);
+
+/* What reading a datagram returns: one of rb_number, the length of the message in the room, and where the community stands in the datagram. All but the
+ * number are 0 unless the number is 0. */
+typedef struct {
+    uint32_t number;
+    uint32_t count;
+    uint32_t community_at;
+    uint32_t community_len;
+} rb_datagram;
+
+/* Reads an SNMPv2c datagram (RFC 1901, RFC 3416, BER with any definite length) into a message at the start of the room; the room's other octets keep
+ * theirs. rb_from_datagram takes get, get-next and set; rb_from_captured takes responses too. A room under 1,472 octets is 1. Returns 0, 1, 7, 8 or 16
+ * to 20; what is refused writes nothing. What is read is a message that rb_answer refuses only with 1 or 3. */
+rb_datagram rb_from_datagram(const uint8_t *datagram, size_t datagram_len, uint8_t *room, size_t room_len);
+rb_datagram rb_from_captured(const uint8_t *datagram, size_t datagram_len, uint8_t *room, size_t room_len);
+
+/* Writes a response as an SNMPv2c datagram in the shortest form, with the community that it goes back to; the datagram stands at the start of the room
+ * and has `count` octets. Returns 0, 1, 4 to 8 with the offset in the message (7 for a message that is no response), 19 or 20. */
+rb_result rb_to_datagram(const uint8_t *message, size_t message_len, const uint8_t *community, size_t community_len, uint8_t *room, size_t room_len);
 
 #ifdef __cplusplus
 }

@@ -211,6 +211,7 @@ datagram-is community id status index bs {rest} e =
     field-is 0x30 (v ++ h) (community ++ r) (three-parts v community r)
     ∙ ap (λ (m : ℕ). (headerForm 0x30 (length (v ++ h) + m) ++ (v ++ h)) ++ (community ++ r)) (length-append community r ∙ ap (λ (m : ℕ). length community + m) n)
     ∙ ap (λ (u : List ℕ). (headerForm 0x30 (length (v ++ h) + (length community + rest)) ++ (v ++ h)) ++ (community ++ u)) q
+
 -- ## The datagram
 
 pub sent-long : (room xs : List ℕ) → mostOctets < length xs → notSent 20 0 room ≡ sent room xs
@@ -239,6 +240,9 @@ module _ (community : List ℕ) (id status index : ℕ) (bs : List Bound) {size 
       let x : List ℕ = datagramFront (length community) rest in
       let y : List ℕ = responseFront (length (bindingsBer bs)) id status index in
       omega (arith, ap length (datagram-is community id status index bs rest-is), length-append x (community ++ (y ++ bindingsBer bs)), length-append community (y ++ bindingsBer bs), length-append y (bindingsBer bs), rest-is, v .starts)
+
+  pub measured-over : (room : List ℕ) → mostOctets < 11 - f + (length community + rest) → notSent 20 0 room ≡ sent room (datagramOctets community id status index bs)
+  measured-over room h = sent-long room (datagramOctets community id status index bs) (omega (arith, measured-is))
 
   pub parts-are : 28 ≤ length a → 11 ≤ length c
       → take (11 - f) (drop f d) ++ (community ++ (take (28 - r) (drop r b) ++ bindingsBer bs)) ≡ datagramOctets community id status index bs

@@ -120,7 +120,8 @@ fn round(compared: &mut Compared, random: &mut Random) -> Result<(), Difference>
         compare_reading(compared, random, &damaged)?;
     }
     let message = any_response(random);
-    let community = random.octets([0, 6, 127, 128, 255, 256, 1000, 1472, 1473][random.below(9)]);
+    let size = random.pick(&[0, 6, 127, 128, 255, 256, 1000, 1472, 1473]);
+    let community = random.octets(size);
     compare_writing(compared, random, &message, &community)?;
     for _ in 0..3 {
         let mut damaged = message.clone();

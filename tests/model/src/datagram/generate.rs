@@ -11,7 +11,7 @@ fn any_length(random: &mut Random, tag: u8, contents: &[u8]) -> Vec<u8> {
     }
     let length = (contents.len() as u32).to_be_bytes();
     let needed = 4 - length.iter().take_while(|&&x| x == 0).count();
-    let zeros = [0, 0, 1, 3, 60, 122][random.below(6)];
+    let zeros = random.pick(&[0, 0, 1, 3, 60, 122]);
     let mut octets = vec![tag, 128 + (zeros + needed.max(1)) as u8];
     octets.extend(vec![0; zeros]);
     octets.extend(&length[4 - needed.max(1)..]);
@@ -72,7 +72,10 @@ fn any_content(random: &mut Random, kind: u8) -> Vec<u8> {
     };
     let tag = if random.chance(4) { random.pick(&[0x05, 0x02, 0x04, 0x24, 0x40, 0x43, 0x46, 0x80, 0x1F]) } else { usual };
     let contents = match tag {
-        tag::STRING if random.chance(10) => random.octets([127, 128, 254, 255, 256, 300][random.below(6)]),
+        tag::STRING if random.chance(10) => {
+            let size = random.pick(&[127, 128, 254, 255, 256, 300]);
+            random.octets(size)
+        }
         tag::STRING => random.some_octets(20),
         tag::INTEGER | tag::UNSIGNED | tag::COUNTER => any_number(random),
         _ if random.chance(2) => vec![0],
@@ -118,7 +121,8 @@ pub fn any_datagram(random: &mut Random) -> Vec<u8> {
     }
     let version = if random.chance(3) { any_number(random) } else { vec![1] };
     let mut whole = any_length(random, tag::INTEGER, &version);
-    let community = random.octets([0, 6, 20, 127, 128, 200, 900][random.below(7)]);
+    let size = random.pick(&[0, 6, 20, 127, 128, 200, 900]);
+    let community = random.octets(size);
     whole.extend(any_length(random, tag::STRING, &community));
     whole.extend(any_length(random, tag::PDU + kind, &pdu));
     if random.chance(2) {

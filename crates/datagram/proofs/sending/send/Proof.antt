@@ -5,7 +5,7 @@ use mathlib.Core.Path.{refl, ap, _∙_}
 use Rattle.octets.specs.Parts.{patch}
 use Rattle.datagram.specs.declared.sending.Written.{Written}
 use Rattle.datagram.specs.Writing.{sentAs}
-use Rattle.datagram.proofs.SendLaws.{sent-community, sent-long, sent-whole, measured-is, parts-are, parts-fit, long-enough}
+use Rattle.datagram.proofs.SendLaws.{sent-community, sent-whole, measured-is, measured-over, parts-are, parts-fit, long-enough}
 use Rattle.datagram.proofs.sending.send.Statement.{statement}
 use Rattle.datagram.proofs.sending.send.Tie as tie
 
@@ -64,7 +64,7 @@ returns-2 c =
     let r = c .before .before .before .before .before .before .response-front .ensures .0 in
     let f = c .before .before .before .datagram-front .ensures .0 in
     ap (λ (u : Written). sentAs u (a .room .now)) (c .not-written2 .ensures)
-    ∙ sent-long (a .room .now) _ (omega (arith, measured-is (a .community .now) _ _ _ _ n r refl f))
+    ∙ measured-over (a .community .now) _ _ _ _ n r refl f (a .room .now) (omega arith)
 
 sub-put-datagram : tie.Need-sub-put-datagram
 sub-put-datagram c = search needs
