@@ -23,13 +23,13 @@ static void print_content(const uint8_t *field)
 {
     switch (field[0]) {
     case RB_TAG_INTEGER:
-        printf(",int32=%" PRId32, (int32_t)four(field + 3));
+        printf(",integer=%" PRId32, (int32_t)four(field + 3));
         break;
     case RB_TAG_UNSIGNED:
-        printf(",uint32=%" PRIu32, four(field + 3));
+        printf(",gauge=%" PRIu32, four(field + 3));
         break;
     case RB_TAG_COUNTER:
-        printf(",uint32=%" PRIu32, four(field + 3));
+        printf(",counter=%" PRIu32, four(field + 3));
         break;
     case RB_TAG_STRING:
         printf(",octets=");

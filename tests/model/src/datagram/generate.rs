@@ -51,7 +51,7 @@ fn any_name(random: &mut Random) -> Vec<u8> {
     }
     ids.extend((2..count).map(|_| any_id(random)));
     let mut octets = name(&ids);
-    match random.below(60) {
+    match random.below(300) {
         0 => octets.insert(0, 0x80),
         1 => octets.push(0x81),
         2 => octets.extend([0x90, 0x80, 0x80, 0x80, 0x00]),
@@ -70,13 +70,15 @@ fn any_content(random: &mut Random, kind: u8) -> Vec<u8> {
         SET => CONTENTS[1 + random.below(4)].0,
         _ => CONTENTS[random.below(8)].0,
     };
-    let tag = if random.chance(4) { random.pick(&[0x05, 0x02, 0x04, 0x24, 0x40, 0x43, 0x46, 0x80, 0x1F]) } else { usual };
+    let tag = if random.chance(1) { random.pick(&[0x05, 0x02, 0x04, 0x24, 0x40, 0x43, 0x46, 0x80, 0x1F]) } else { usual };
     let contents = match tag {
         tag::STRING if random.chance(10) => {
             let size = random.pick(&[127, 128, 254, 255, 256, 300]);
             random.octets(size)
         }
         tag::STRING => random.some_octets(20),
+        tag::INTEGER if random.chance(95) => number(i64::from(random.number() as i32)),
+        tag::UNSIGNED | tag::COUNTER if random.chance(95) => number(i64::from(random.number() as u32)),
         tag::INTEGER | tag::UNSIGNED | tag::COUNTER => any_number(random),
         _ if random.chance(2) => vec![0],
         _ => vec![],
@@ -88,7 +90,7 @@ fn any_binding(random: &mut Random, kind: u8) -> Vec<u8> {
     let octets = any_name(random);
     let mut inside = any_length(random, tag::NAME, &octets);
     inside.extend(any_content(random, kind));
-    if random.chance(1) {
+    if random.below(300) == 0 {
         inside.extend(random.octets(2));
     }
     any_length(random, tag::SEQUENCE, &inside)
