@@ -3,11 +3,12 @@
  * The caller lends every octet that the library works on: a block that holds one bridge, a request, and a room for the answer. The library keeps
  * nothing between calls, takes no memory, and has no globals, so calls on different blocks may run at the same time.
  *
- * What every call does is an equation with a definition (in the specs of the crates answer, block, timers, tally, console and walks), proved for all octets, lengths
- * and numbers. What the caller must still promise, because C cannot show it to the library:
+ * What every call does is an equation with a definition (in the specs of the crates answer, block, timers, tally, datagram, console and walks), proved for all
+ * octets, lengths and numbers. What the caller must still promise, because C cannot show it to the library:
  *   - each pointer is valid for as many octets as the length beside it says: `block`, `state` and `room` to read and write, the others to read; a
  *     pointer is not NULL, not even with the length 0;
- *   - block, request and room do not overlap, and neither do block and address, nor state, chunk and room;
+ *   - block, request and room do not overlap, and neither do block and address, nor datagram, message, community and
+ *     room, nor state, chunk and room;
  *   - a run's list is valid for `count` records and its mark for one octet, and the mark does not stand in the list;
  *   - nothing else writes them during a call.
  */
@@ -50,6 +51,11 @@ enum rb_number {
     RB_VERDICT_REFUSED = 13,  /* verdict or crash with none running, or verdict for another case */
     RB_RUN_ENDED = 14,        /* any event after end */
     RB_RUN_NOT_LEGAL = 15,    /* the list is too long, not ascending, or in a state that no events lead to */
+    RB_BER_BROKEN = 16,       /* a datagram: broken BER, octets left over, or a wrong tag other than a PDU's or a content's */
+    RB_VERSION_WRONG = 17,    /* a datagram: the version is not 1 (SNMPv2c) */
+    RB_PDU_NOT_TAKEN = 18,    /* a datagram: the call does not take this kind of PDU */
+    RB_NO_COUNTERPART = 19,   /* a number, content or name has no counterpart in the other form */
+    RB_DATAGRAM_LONG = 20,    /* a datagram or a message, given or to be written, has over 1,472 octets */
     RB_CONSOLE_WRONG = 21,    /* console: a wrong header or inner length, or a saved state that no stream leaves */
     RB_CONSOLE_LONG = 22,     /* console: a message length over 1,472 */
     RB_NOT_ASCENDING = 24,    /* a walk's names do not ascend strictly */
@@ -196,6 +202,25 @@ enum rb_walk_entry {
  * under a ports column are port sets: they differ when their members do. Returns 0, 4 to 6, 24 or 25; a refusal writes no octet. The walks and the list do
  * not overlap; the two walks may be one. */
 rb_walks rb_compare_walks(const uint8_t *reference, size_t reference_len, const uint8_t *device, size_t device_len, uint8_t *list, size_t list_len);
+
+/* What reading a datagram returns: one of rb_number, the length of the message in the room, and where the community stands in the datagram. All but the
+ * number are 0 unless the number is 0. */
+typedef struct {
+    uint32_t number;
+    uint32_t count;
+    uint32_t community_at;
+    uint32_t community_len;
+} rb_datagram;
+
+/* Reads an SNMPv2c datagram (RFC 1901, RFC 3416, BER with any definite length) into a message at the start of the room; the room's other octets keep
+ * theirs. rb_from_datagram takes get, get-next and set; rb_from_captured takes responses too. A room under 1,472 octets is 1. Returns 0, 1, 7, 8 or 16
+ * to 20; what is refused writes nothing. What is read is a message that rb_answer refuses only with 1 or 3. */
+rb_datagram rb_from_datagram(const uint8_t *datagram, size_t datagram_len, uint8_t *room, size_t room_len);
+rb_datagram rb_from_captured(const uint8_t *datagram, size_t datagram_len, uint8_t *room, size_t room_len);
+
+/* Writes a response as an SNMPv2c datagram in the shortest form, with the community that it goes back to; the datagram stands at the start of the room
+ * and has `count` octets. Returns 0, 1, 4 to 8 with the offset in the message (7 for a message that is no response), 19 or 20. */
+rb_result rb_to_datagram(const uint8_t *message, size_t message_len, const uint8_t *community, size_t community_len, uint8_t *room, size_t room_len);
 
 #ifdef __cplusplus
 }

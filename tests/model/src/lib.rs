@@ -1,6 +1,9 @@
 //! An ordinary implementation of the reference bridge, and what the differential test needs beside it.
 
 pub mod case_file;
+pub mod datagram;
+#[cfg(linked)]
+pub mod datagram_calls;
 pub mod fixed;
 pub mod generate;
 pub mod library;
