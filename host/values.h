@@ -2,6 +2,8 @@
 #ifndef HOST_VALUES_H
 #define HOST_VALUES_H
 
+#include <stdio.h>
+
 #include "objects.h"
 #include "text.h"
 
@@ -28,6 +30,6 @@ uint8_t value_exception(struct text word);
 bool value_is(const struct value *got, const struct value *expected, uint32_t ports);
 
 /* Prints a content in the form that is read; the object, if known, says how a string is shown. */
-void value_print(const struct value *value, const struct object *object, uint32_t ports);
+void value_print(FILE *out, const struct value *value, const struct object *object, uint32_t ports);
 
 #endif

@@ -1,4 +1,4 @@
-# Writes a submission: PARTS case files of 1,000 cases each, the same ones every time, into FOLDER.
+# Writes a submission: PARTS case files of 1,000 cases each, a command to a case, the same ones every time, into FOLDER.
 #
 #   awk -v folder=FOLDER -v parts=41 -f tests/submission/make_cases.awk
 #
@@ -12,7 +12,12 @@ function below(count) {
     return seed % count
 }
 
-function command(words) { print words > file; played++ }
+# Every command is a case of its own; what it is given first stands in `prelude`.
+function command(words) {
+    printf "case %d %s\n%s%s\n", ++id, words, prelude, words > file
+    prelude = ""
+    played++
+}
 function expect(words) { print "-> " words > file }
 function fault(name, index_of) { expect("status " name " index " index_of) }
 
@@ -280,11 +285,11 @@ function walk_all() {
 
 function refuse(    kind) {
     kind = below(9)
-    if (kind == 0) { print "room 1471" > file; command("get dot1dBaseNumPorts.0"); expect("refused 1") }
+    if (kind == 0) { prelude = "room 1471\n"; command("get dot1dBaseNumPorts.0"); expect("refused 1") }
     else if (kind == 1) { command("raw " too_long); expect("refused 2") }
-    else if (kind == 2) { print "size 32767" > file; command("get dot1dBaseNumPorts.0"); expect("refused 3") }
+    else if (kind == 2) { prelude = "size 32767\n"; command("get dot1dBaseNumPorts.0"); expect("refused 3") }
     else if (kind == 3) {
-        print "poke 32767 01" > file
+        prelude = "poke 32767 01\n"
         command("get dot1dBaseNumPorts.0"); expect("refused 3")
         print "poke 32767 00" > file
     }
