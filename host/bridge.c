@@ -2,6 +2,7 @@
 
 #include <string.h>
 
+#include "numbers.h"
 #include "refbridge.h"
 
 #define ROOM_FILL 0xA5 /* octets of the room before a call, to see which ones the call writes */
@@ -47,6 +48,14 @@ static bool block_kept_past(const struct bridge *bridge)
     return memcmp(bridge->block + lent, bridge->before + lent, BLOCK_LENT_MAX - lent) == 0;
 }
 
+static const char *offset_flaw(const struct reply *reply, size_t request_count)
+{
+    if (reply->offset != 0 && !refusal_has_offset(reply->number)) {
+        return "a return other than 4 to 8 has an offset that is not 0";
+    }
+    return reply->offset > request_count ? "the offset is past the request's end" : NULL;
+}
+
 static const char *refusal_flaw(const struct bridge *bridge, const struct reply *reply)
 {
     if (reply->count != 0) {
@@ -89,16 +98,24 @@ static const char *answer_call_flaw(const struct bridge *bridge, const struct re
     return block_kept_past(bridge) ? NULL : "the answer call wrote past the block";
 }
 
+static struct reply make_reply(rb_result result)
+{
+    return (struct reply){.number = result.number, .count = result.count, .offset = result.offset};
+}
+
+/* Notes a call's flaw and, where it has none, that of its offset. */
+static void note_flaw(struct reply *reply, const char *flaw, size_t request_count)
+{
+    reply->flaw = flaw != NULL ? flaw : offset_flaw(reply, request_count);
+}
+
 struct reply bridge_setup(struct bridge *bridge, uint32_t ports, const struct octets *address)
 {
-    struct reply reply = {.flaw = NULL};
-    rb_result result;
+    struct reply reply;
 
     note_before(bridge);
-    result = rb_setup(bridge->block, bridge->block_lent, ports, address->at, address->count);
-    reply.number = result.number;
-    reply.count = result.count;
-    reply.flaw = setup_flaw(bridge, &reply);
+    reply = make_reply(rb_setup(bridge->block, bridge->block_lent, ports, address->at, address->count));
+    note_flaw(&reply, setup_flaw(bridge, &reply), 0);
     if (reply.number == RB_ANSWERED) {
         bridge->ports = ports;
     }
@@ -107,26 +124,28 @@ struct reply bridge_setup(struct bridge *bridge, uint32_t ports, const struct oc
 
 struct reply bridge_answer(struct bridge *bridge, const struct octets *request)
 {
-    struct reply reply = {.flaw = NULL};
-    rb_result result;
+    struct reply reply;
 
     note_before(bridge);
-    result = rb_answer(bridge->block, bridge->block_lent, request->at, request->count, bridge->room, bridge->room_lent);
-    reply.number = result.number;
-    reply.count = result.count;
-    reply.flaw = answer_call_flaw(bridge, &reply);
+    reply = make_reply(
+        rb_answer(bridge->block, bridge->block_lent, request->at, request->count, bridge->room, bridge->room_lent));
+    note_flaw(&reply, answer_call_flaw(bridge, &reply), request->count);
     return reply;
+}
+
+static const char *timer_flaw(const struct reply *reply)
+{
+    if (reply->number != RB_ANSWERED && reply->number != RB_TIMER_RANGE) {
+        return "a timer call returned neither 0 nor 10";
+    }
+    return reply->number == RB_TIMER_RANGE && reply->count != 0 ? "a refusal has a count that is not 0" : NULL;
 }
 
 static struct reply timer_reply(rb_result result)
 {
-    struct reply reply = {.number = result.number, .count = result.count, .flaw = NULL};
+    struct reply reply = make_reply(result);
 
-    if (reply.number != RB_ANSWERED && reply.number != RB_TIMER_RANGE) {
-        reply.flaw = "a timer call returned neither 0 nor 10";
-    } else if (reply.number == RB_TIMER_RANGE && reply.count != 0) {
-        reply.flaw = "a refusal has a count that is not 0";
-    }
+    note_flaw(&reply, timer_flaw(&reply), 0);
     return reply;
 }
 

@@ -18,6 +18,7 @@ struct bridge {
 struct reply {
     uint32_t number;
     uint32_t count;
+    uint32_t offset;
     const char *flaw;
 };
 

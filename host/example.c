@@ -23,7 +23,8 @@ static const uint8_t integer_4096[] = {RB_TAG_INTEGER, 0, 4, 0, 0, 0x10, 0};
 static void check(const char *call, rb_result result)
 {
     if (result.number != RB_ANSWERED) {
-        fprintf(stderr, "%s: refused with number %u\n", call, (unsigned)result.number);
+        fprintf(stderr, "%s: refused with number %u, offset %u\n", call, (unsigned)result.number,
+                (unsigned)result.offset);
         exit(1);
     }
 }

@@ -50,6 +50,28 @@ static bool take_name_in_brackets(struct text *text, const char *name, struct co
     return true;
 }
 
+/* After a refusal 4 to 8 the offset where the request broke may stand. */
+static bool take_offset(struct text *text, struct expected *expected, struct complaint *why)
+{
+    uint64_t offset;
+
+    expected->has_offset = !text_is_done(text);
+    if (!expected->has_offset) {
+        return true;
+    }
+    if (!text_is(text_word(text, ""), "at")) {
+        return complain(why, "a refusal is written: refused N, or refused N at OFFSET");
+    }
+    if (!refusal_has_offset(expected->number)) {
+        return complain(why, "only the refusals 4 to 8 have an offset");
+    }
+    if (!text_take_number(text, "the offset", RB_MESSAGE_MAX, &offset, why)) {
+        return false;
+    }
+    expected->offset = (uint32_t)offset;
+    return true;
+}
+
 static bool read_refused(struct text *text, struct expected *expected, struct complaint *why)
 {
     uint64_t number;
@@ -61,7 +83,7 @@ static bool read_refused(struct text *text, struct expected *expected, struct co
         return complain(why, "0 is no refusal");
     }
     expected->number = (uint32_t)number;
-    return take_name_in_brackets(text, refusal_name(expected->number), why);
+    return take_name_in_brackets(text, refusal_name(expected->number), why) && take_offset(text, expected, why);
 }
 
 static bool read_status(struct text *text, struct expected *expected, struct complaint *why)

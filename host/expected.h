@@ -8,7 +8,7 @@
 
 /* Kinds are single bits, so that a command's fitting kinds are a sum. */
 enum expected_kind {
-    EXPECTED_REFUSED = 1,    /* refused N */
+    EXPECTED_REFUSED = 1,    /* refused N, or refused N at OFFSET */
     EXPECTED_ACCEPTED = 2,   /* accepted: a set-up, or a set without a fault */
     EXPECTED_STATUS = 4,     /* status N index N */
     EXPECTED_OCTETS = 8,     /* octets HEX: the whole answer */
@@ -22,6 +22,8 @@ struct expected {
     enum expected_kind kind;
     uint32_t number; /* refusal, status, instances, value */
     uint32_t index;
+    uint32_t offset; /* of a refusal that is expected at one */
+    bool has_offset;
     struct octets octets;
     struct binding binding;
 };

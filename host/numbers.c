@@ -39,6 +39,11 @@ const char *refusal_name(uint32_t number)
     return number < sizeof refusals / sizeof refusals[0] ? refusals[number] : NULL;
 }
 
+bool refusal_has_offset(uint32_t number)
+{
+    return number >= RB_FIELD_CUT && number <= RB_TOO_MANY_BINDINGS;
+}
+
 const char *status_name(uint32_t status)
 {
     for (size_t i = 0; i < STATUSES; i++) {

@@ -9,6 +9,9 @@
 /* The name of a refusal 1 to 10, or NULL. */
 const char *refusal_name(uint32_t number);
 
+/* True for 4 to 8, which have the offset where the request broke; with every other return the offset is 0. */
+bool refusal_has_offset(uint32_t number);
+
 /* The name of a status in RFC 3416, or NULL where this bridge never answers it. */
 const char *status_name(uint32_t status);
 

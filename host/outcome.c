@@ -4,6 +4,7 @@
 #include <stdio.h>
 #include <string.h>
 
+#include "broken.h"
 #include "numbers.h"
 
 static bool is_accepted(const struct outcome *outcome)
@@ -17,11 +18,17 @@ static bool has_octets(const struct outcome *outcome)
     return outcome->kind == OUTCOME_ANSWERED || outcome->kind == OUTCOME_NO_RESPONSE;
 }
 
+static bool is_refused(const struct outcome *outcome, const struct expected *expected)
+{
+    return outcome->kind == OUTCOME_REFUSED && outcome->number == expected->number &&
+           (!expected->has_offset || outcome->offset == expected->offset);
+}
+
 bool outcome_is(const struct outcome *outcome, const struct expected *expected)
 {
     switch (expected->kind) {
     case EXPECTED_REFUSED:
-        return outcome->kind == OUTCOME_REFUSED && outcome->number == expected->number;
+        return is_refused(outcome, expected);
     case EXPECTED_ACCEPTED:
         return is_accepted(outcome);
     case EXPECTED_STATUS:
@@ -60,6 +67,19 @@ static void print_numbered(FILE *out, const char *word, uint32_t number, const c
     }
 }
 
+/* With the octets around the offset as a comment, so that what is printed is still an expected answer. */
+static void print_refused(FILE *out, const struct outcome *outcome)
+{
+    print_numbered(out, "refused", outcome->number, refusal_name(outcome->number));
+    if (refusal_has_offset(outcome->number)) {
+        fprintf(out, " at %" PRIu32, outcome->offset);
+        if (outcome->offset <= outcome->count) {
+            fputs("    # ", out);
+            broken_print(out, outcome->octets, outcome->count, outcome->offset);
+        }
+    }
+}
+
 static void print_answered(FILE *out, const struct outcome *outcome)
 {
     if (is_accepted(outcome)) {
@@ -74,7 +94,7 @@ void outcome_print(FILE *out, const struct outcome *outcome)
 {
     switch (outcome->kind) {
     case OUTCOME_REFUSED:
-        print_numbered(out, "refused", outcome->number, refusal_name(outcome->number));
+        print_refused(out, outcome);
         break;
     case OUTCOME_SET_UP:
         fputs("accepted", out);

@@ -19,9 +19,10 @@ enum outcome_kind {
 struct outcome {
     enum outcome_kind kind;
     uint32_t number; /* the refusal, the converted timer, or the instances of a walk */
+    uint32_t offset; /* where the request broke */
     bool set;        /* the message was a set */
     struct answer answer;
-    const uint8_t *octets; /* of the answer, with their count */
+    const uint8_t *octets; /* of the answer, or of the request that was refused, with their count */
     size_t count;
 };
 

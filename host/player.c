@@ -69,7 +69,11 @@ static struct outcome ask(struct player *player, const struct octets *request, s
 
     *reply = bridge_answer(bridge, request);
     if (reply->number != RB_ANSWERED) {
-        return refused(reply->number);
+        outcome = refused(reply->number);
+        outcome.offset = reply->offset;
+        outcome.octets = request->at;
+        outcome.count = request->count;
+        return outcome;
     }
     outcome = (struct outcome){.kind = OUTCOME_NO_RESPONSE,
                                .set = request_kind(request) == RB_SET,
@@ -121,13 +125,13 @@ static void play_message(struct turn *turn)
 /* One step of a walk: get-next of `name`, whose answer is the next instance. False where the walk ends there. */
 static bool step(struct turn *turn, struct binding *next, struct outcome *outcome)
 {
-    struct octets request;
+    struct octets *request = &turn->command.octets; /* in the turn, as a refusal's outcome shows it */
     struct reply reply;
     struct name name = next->name;
 
-    request_start(&request, RB_GET_NEXT, (uint32_t)turn->line.number);
-    request_add(&request, &name, NULL);
-    *outcome = ask(turn->player, &request, &reply);
+    request_start(request, RB_GET_NEXT, (uint32_t)turn->line.number);
+    request_add(request, &name, NULL);
+    *outcome = ask(turn->player, request, &reply);
     note_flaw(turn, reply.flaw);
     if (outcome->kind != OUTCOME_ANSWERED || !answer_binding(&outcome->answer, next) ||
         next->value.tag == RB_TAG_END_OF_MIB_VIEW || !name_is_under(&next->name, &turn->command.name)) {

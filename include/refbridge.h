@@ -77,10 +77,12 @@ enum rb_tag {
     RB_TAG_END_OF_MIB_VIEW = 0x32
 };
 
-/* What a call returns: one of rb_number, and a count that is 0 unless the number is 0. */
+/* What a call returns: one of rb_number, a count that is 0 unless the number is 0, and an offset that is 0 unless the number is 4 to 8: then it tells where in
+ * the request the field's tag octet is or would be, or the first octet that is left over behind a binding's two fields. */
 typedef struct {
     uint32_t number;
     uint32_t count;
+    uint32_t offset;
 } rb_result;
 
 /* Writes a fresh bridge into the whole block. Returns 0 or 9; the count is 0. */

@@ -59,11 +59,12 @@ fn write_call(lines: &mut Vec<String>, block: &mut Vec<u8>, request: &[u8], bloc
     given.resize(block_len, 0);
     let mut room = vec![0; room_len];
     match calls::answer(&mut given, request, &mut room) {
-        (0, count) => {
+        (0, count, _) => {
             lines.push(format!("-> octets {}", hex(&room[..count as usize])));
             *block = given;
         }
-        (refusal, _) => lines.push(format!("-> refused {refusal}")),
+        (refusal @ 4..=8, _, offset) => lines.push(format!("-> refused {refusal} at {offset}")),
+        (refusal, _, _) => lines.push(format!("-> refused {refusal}")),
     }
 }
 

@@ -1,6 +1,6 @@
 //! Set-up with right and wrong arguments, and timers over all numbers that matter.
 
-use crate::library::Library;
+use crate::library::{Library, Returned};
 use crate::model::calls;
 use crate::model::image::BLOCK;
 use crate::player::{same_octets, same_return, Difference};
@@ -60,7 +60,7 @@ pub fn compare_timers(library: Library, random: &mut Random, tally: &mut Tally) 
     Ok(())
 }
 
-fn note(tally: &mut Tally, said: (u32, u32), title: &'static str, number: u32) {
+fn note(tally: &mut Tally, said: Returned, title: &'static str, number: u32) {
     tally.calls += 1;
     match said.0 {
         0 => tally.note(title, number),

@@ -1,9 +1,7 @@
 //! The calls under test, as a table of functions: the linked library, or the model itself behind octets.
 
 use crate::model::calls;
-
-/// A number and a count.
-pub type Returned = (u32, u32);
+pub use crate::model::calls::Returned;
 
 #[derive(Clone, Copy)]
 pub struct Library {
@@ -43,6 +41,7 @@ mod archive {
     struct Result {
         number: u32,
         count: u32,
+        offset: u32,
     }
 
     #[link(name = "refbridge", kind = "static")]
@@ -62,27 +61,27 @@ mod archive {
 
     pub const LIBRARY: Library = Library { set_up, answer, to_256ths, to_hundredths };
 
+    fn returned(result: Result) -> Returned {
+        (result.number, result.count, result.offset)
+    }
+
     // Each slice is valid for its length, and they do not overlap: that is all the header asks.
     fn set_up(block: &mut [u8], ports: u32, address: &[u8]) -> Returned {
-        let result = unsafe { rb_setup(block.as_mut_ptr(), block.len(), ports, address.as_ptr(), address.len()) };
-        (result.number, result.count)
+        returned(unsafe { rb_setup(block.as_mut_ptr(), block.len(), ports, address.as_ptr(), address.len()) })
     }
 
     fn answer(block: &mut [u8], request: &[u8], room: &mut [u8]) -> Returned {
         let (block_len, room_len) = (block.len(), room.len());
-        let result = unsafe {
+        returned(unsafe {
             rb_answer(block.as_mut_ptr(), block_len, request.as_ptr(), request.len(), room.as_mut_ptr(), room_len)
-        };
-        (result.number, result.count)
+        })
     }
 
     fn to_256ths(hundredths: u32) -> Returned {
-        let result = unsafe { rb_to_256ths(hundredths) };
-        (result.number, result.count)
+        returned(unsafe { rb_to_256ths(hundredths) })
     }
 
     fn to_hundredths(ticks: u32) -> Returned {
-        let result = unsafe { rb_to_hundredths(ticks) };
-        (result.number, result.count)
+        returned(unsafe { rb_to_hundredths(ticks) })
     }
 }

@@ -6,6 +6,7 @@ use crate::model::answer::refuse_sizes;
 use crate::model::bridge::Bridge;
 use crate::model::calls::BLOCK_NOT_LEGAL;
 use crate::model::image::BLOCK;
+use crate::model::message::Refusal;
 use crate::random::Random;
 use crate::step::{History, Step};
 use crate::tally::Tally;
@@ -60,7 +61,7 @@ impl<'a> Player<'a> {
         let mut block = poison.poison(BLOCK).into_boxed_slice();
         let returned = (library.set_up)(&mut block, start.ports, &start.address);
         let fresh = Bridge::fresh(start.ports, &start.address).expect("a bridge to start from");
-        same_return("set-up", returned, (0, 0))?;
+        same_return("set-up", returned, (0, 0, 0))?;
         same_octets("block after set-up", &block, &fresh.image())?;
         let expected = start.image();
         let twin = Twin { block: expected.clone().into_boxed_slice(), expected, bridge: Some(start.clone()) };
@@ -131,7 +132,11 @@ impl Bench<'_> {
             self.call_of_other_length(twin, &given, block_len, &mut room)?
         };
         let answer = said.as_deref().unwrap_or_default();
-        same_return("answer", returned, (said.as_ref().err().copied().unwrap_or(0), answer.len() as u32))?;
+        let expected = match &said {
+            Ok(answer) => (0, answer.len() as u32, 0),
+            Err(Refusal { number, offset }) => (*number, 0, *offset),
+        };
+        same_return("answer", returned, expected)?;
         same_octets("answer", &room[..answer.len()], answer)?;
         same_octets("room after the answer", &room[answer.len()..], &poison[answer.len()..])?;
         same_octets("block", &twin.block, &twin.expected)?;
@@ -158,7 +163,7 @@ impl Bench<'_> {
 
 impl Twin {
     /// What the model says; the expected block becomes the one afterwards.
-    fn say(&mut self, request: &[u8], block_len: usize, room_len: usize) -> Result<Vec<u8>, u32> {
+    fn say(&mut self, request: &[u8], block_len: usize, room_len: usize) -> Result<Vec<u8>, Refusal> {
         refuse_sizes(request.len(), room_len)?;
         let bridge = self.bridge.as_mut().filter(|_| block_len == BLOCK).ok_or(BLOCK_NOT_LEGAL)?;
         let answer = bridge.answer(request, room_len)?;
@@ -178,7 +183,7 @@ pub fn same_return(call: &str, returned: Returned, expected: Returned) -> Result
     if returned == expected {
         return Ok(());
     }
-    Err(format!("{call}: number and count are {returned:?} and not {expected:?}"))
+    Err(format!("{call}: number, count and offset are {returned:?} and not {expected:?}"))
 }
 
 pub fn same_octets(what: &str, octets: &[u8], expected: &[u8]) -> Result<(), Difference> {

@@ -3,7 +3,7 @@
 use crate::generate::scripts::SCRIPTS;
 use crate::generate::start::PORTS;
 use crate::model::bridge::{Bridge, MOST_ROWS};
-use crate::model::message::{read, write_answer, Binding, Kind, Request, LONGEST};
+use crate::model::message::{read, write_answer, Binding, Kind, Refusal, Request, LONGEST};
 use crate::model::names::{split, Object, Shape, TABLE};
 use std::collections::BTreeMap;
 
@@ -18,6 +18,9 @@ fn required() -> Vec<(&'static str, Vec<u32>)> {
     let writable = TABLE.iter().filter(|entry| entry.writable()).map(|entry| entry.object as u32);
     vec![
         ("refused", (1..=10).collect()),
+        ("broken in the head, by offset", vec![0, 4, 11]),
+        ("broken behind the head, by refusal", vec![4, 5, 6, 8]),
+        ("a field would be where the request ends", vec![0]),
         ("set at fault", vec![5, 7, 8, 10, 11, 12, 13, 17, 18]),
         ("fault at binding", (1..=16).collect()),
         ("content, by tag", vec![0x21, 0x22, 0x23, 0x24, 0x30, 0x31, 0x32]),
@@ -58,16 +61,28 @@ impl Tally {
         octets: &[u8],
         before: Option<&Bridge>,
         after: Option<&Bridge>,
-        said: &Result<Vec<u8>, u32>,
+        said: &Result<Vec<u8>, Refusal>,
     ) {
         self.calls += 1;
         match (said, before, after) {
-            (Err(refusal), _, _) => self.note("refused", *refusal),
+            (Err(refusal), _, _) => self.note_refused(octets, *refusal),
             (Ok(answer), Some(before), Some(after)) => {
                 self.note_sizes(octets, before, answer);
                 self.note_answer(&read(octets).expect("answered"), before, after, answer);
             }
             _ => unreachable!("answered without a legal block"),
+        }
+    }
+
+    fn note_refused(&mut self, request: &[u8], Refusal { number, offset }: Refusal) {
+        self.note("refused", number);
+        match (number, offset) {
+            (4..=8, 0..16) => self.note("broken in the head, by offset", offset),
+            (4..=8, _) => self.note("broken behind the head, by refusal", number),
+            _ => {}
+        }
+        if number == 4 && offset as usize == request.len() {
+            self.note("a field would be where the request ends", 0);
         }
     }
 

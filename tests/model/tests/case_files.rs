@@ -27,11 +27,12 @@ impl Replay {
         let (mut given, mut room) = (self.block.clone(), vec![0; self.room]);
         given.resize(self.size, 0);
         self.said = match calls::answer(&mut given, request, &mut room) {
-            (0, count) => {
+            (0, count, _) => {
                 let octets: String = room[..count as usize].iter().map(|octet| format!("{octet:02X}")).collect();
                 format!("-> octets {octets}")
             }
-            (refusal, _) => format!("-> refused {refusal}"),
+            (refusal @ 4..=8, _, offset) => format!("-> refused {refusal} at {offset}"),
+            (refusal, _, _) => format!("-> refused {refusal}"),
         };
         if self.size == self.block.len() {
             self.block = given;

@@ -4,7 +4,7 @@ mod common;
 
 use common::*;
 use refbridge_model::model::message::Content;
-use refbridge_model::model::timers::{to_256ths, to_hundredths};
+use refbridge_model::model::timers::{to_256ths, to_hundredths, TIMER_RANGE};
 
 #[test]
 fn case_1_octet_for_octet() {
@@ -90,7 +90,7 @@ fn case_11_a_static_row_removed_and_written() {
 fn case_12_timers() {
     assert_eq!(to_256ths(2000), Ok(5120));
     assert_eq!((to_256ths(33), to_hundredths(84)), (Ok(84), Ok(33)));
-    assert_eq!(to_256ths(25600), Err(10));
+    assert_eq!(to_256ths(25600), Err(TIMER_RANGE));
 }
 
 #[test]
@@ -98,6 +98,6 @@ fn timers_out_and_back_return_the_number() {
     for hundredths in 0..=25599 {
         assert_eq!(to_256ths(hundredths).and_then(to_hundredths), Ok(hundredths));
     }
-    assert_eq!((to_hundredths(0), to_hundredths(65535), to_hundredths(65536)), (Ok(0), Ok(25600), Err(10)));
-    assert_eq!((to_256ths(u32::MAX), to_hundredths(u32::MAX)), (Err(10), Err(10)));
+    assert_eq!((to_hundredths(0), to_hundredths(65535), to_hundredths(65536)), (Ok(0), Ok(25600), Err(TIMER_RANGE)));
+    assert_eq!((to_256ths(u32::MAX), to_hundredths(u32::MAX)), (Err(TIMER_RANGE), Err(TIMER_RANGE)));
 }

@@ -5,11 +5,11 @@ use super::message::{read, write_answer, Binding, Content, Kind, Refusal, LONGES
 use super::names::{split, BRIDGE, TABLE};
 use std::cmp::Ordering;
 
-pub const ROOM_SHORT: Refusal = 1;
-pub const REQUEST_LONG: Refusal = 2;
+pub const ROOM_SHORT: Refusal = Refusal::of(1);
+pub const REQUEST_LONG: Refusal = Refusal::of(2);
 
 impl Bridge {
-    /// The answer's octets, or the number of the refusal (3 cannot arise here: a bridge is a legal block's content).
+    /// The answer's octets, or the refusal (3 cannot arise here: a bridge is a legal block's content).
     pub fn answer(&mut self, request: &[u8], room_len: usize) -> Result<Vec<u8>, Refusal> {
         refuse_sizes(request.len(), room_len)?;
         let request = read(request)?;

@@ -1,4 +1,4 @@
-//! The library's calls on octets, as include/refbridge.h tells them: each gives a number and a count.
+//! The library's calls on octets, as include/refbridge.h tells them: each gives a number, a count and an offset.
 
 use super::answer::refuse_sizes;
 use super::bridge::Bridge;
@@ -6,27 +6,35 @@ use super::image::BLOCK;
 use super::message::Refusal;
 use super::timers;
 
-pub const BLOCK_NOT_LEGAL: Refusal = 3;
-pub const SET_UP_REFUSED: Refusal = 9;
+pub const BLOCK_NOT_LEGAL: Refusal = Refusal::of(3);
+pub const SET_UP_REFUSED: Refusal = Refusal::of(9);
 
-pub fn set_up(block: &mut [u8], ports: u32, address: &[u8]) -> (u32, u32) {
-    match Bridge::fresh(ports, address) {
-        Some(bridge) if block.len() == BLOCK => {
-            block.copy_from_slice(&bridge.image());
-            (0, 0)
-        }
-        _ => (SET_UP_REFUSED, 0),
+/// A number, a count and an offset.
+pub type Returned = (u32, u32, u32);
+
+fn returned(result: Result<u32, Refusal>) -> Returned {
+    match result {
+        Ok(count) => (0, count, 0),
+        Err(Refusal { number, offset }) => (number, 0, offset),
     }
 }
 
-pub fn answer(block: &mut [u8], request: &[u8], room: &mut [u8]) -> (u32, u32) {
-    match respond(block, request, room.len()) {
-        Ok(octets) => {
-            room[..octets.len()].copy_from_slice(&octets);
-            (0, octets.len() as u32)
+pub fn set_up(block: &mut [u8], ports: u32, address: &[u8]) -> Returned {
+    returned(match Bridge::fresh(ports, address) {
+        Some(bridge) if block.len() == BLOCK => {
+            block.copy_from_slice(&bridge.image());
+            Ok(0)
         }
-        Err(refusal) => (refusal, 0),
-    }
+        _ => Err(SET_UP_REFUSED),
+    })
+}
+
+pub fn answer(block: &mut [u8], request: &[u8], room: &mut [u8]) -> Returned {
+    let octets = respond(block, request, room.len());
+    returned(octets.map(|octets| {
+        room[..octets.len()].copy_from_slice(&octets);
+        octets.len() as u32
+    }))
 }
 
 fn respond(block: &mut [u8], request: &[u8], room_len: usize) -> Result<Vec<u8>, Refusal> {
@@ -37,17 +45,10 @@ fn respond(block: &mut [u8], request: &[u8], room_len: usize) -> Result<Vec<u8>,
     Ok(octets)
 }
 
-pub fn to_256ths(hundredths: u32) -> (u32, u32) {
-    number_and_count(timers::to_256ths(hundredths))
+pub fn to_256ths(hundredths: u32) -> Returned {
+    returned(timers::to_256ths(hundredths))
 }
 
-pub fn to_hundredths(ticks: u32) -> (u32, u32) {
-    number_and_count(timers::to_hundredths(ticks))
-}
-
-fn number_and_count(converted: Result<u32, Refusal>) -> (u32, u32) {
-    match converted {
-        Ok(count) => (0, count),
-        Err(refusal) => (refusal, 0),
-    }
+pub fn to_hundredths(ticks: u32) -> Returned {
+    returned(timers::to_hundredths(ticks))
 }

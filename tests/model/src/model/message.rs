@@ -5,13 +5,30 @@ pub const LONGEST: usize = 1472;
 /// Bindings that a message can have.
 pub const MOST_BINDINGS: usize = 16;
 
-/// A numbered return: 1 to 10.
-pub type Refusal = u32;
-pub const CUT: Refusal = 4;
-pub const WRONG_TAG: Refusal = 5;
-pub const WRONG_LENGTH: Refusal = 6;
-pub const WRONG_HEAD: Refusal = 7;
-pub const TOO_MANY: Refusal = 8;
+/// A numbered return, 1 to 10, and where the request broke: an offset for 4 to 8, and 0 for the others.
+#[derive(Clone, Copy, PartialEq, Eq, Debug)]
+pub struct Refusal {
+    pub number: u32,
+    pub offset: u32,
+}
+
+impl Refusal {
+    /// One that tells no place in the request.
+    pub const fn of(number: u32) -> Refusal {
+        Refusal { number, offset: 0 }
+    }
+
+    /// One that tells where a field's tag is or would be, or where the first octet that is left over is.
+    fn at(number: u32, place: usize) -> Refusal {
+        Refusal { number, offset: place as u32 }
+    }
+}
+
+pub const CUT: u32 = 4;
+pub const WRONG_TAG: u32 = 5;
+pub const WRONG_LENGTH: u32 = 6;
+pub const WRONG_HEAD: u32 = 7;
+pub const TOO_MANY: u32 = 8;
 
 #[derive(Clone, Copy, PartialEq, Eq, Debug)]
 pub enum Kind {
@@ -45,96 +62,126 @@ pub struct Request {
     pub bindings: Vec<Binding>,
 }
 
-/// Octets that are still to be read, up to the end of what encloses them.
+/// Octets of a tag and a length.
+const HEADER: usize = 3;
+
+/// Octets that are still to be read, up to the end of what encloses them, and the place in the message of the first one.
 struct Reader<'a> {
     rest: &'a [u8],
+    place: usize,
+}
+
+/// A field that its enclosure does not cut, and the place in the message of its tag.
+struct Field<'a> {
+    place: usize,
+    tag: u8,
+    contents: &'a [u8],
 }
 
 impl<'a> Reader<'a> {
+    /// What is wrong with the field, or with the octets, that come next.
+    fn refuse(&self, number: u32) -> Refusal {
+        Refusal::at(number, self.place)
+    }
+
     /// The next field's tag and length; it stays unread.
     fn header(&self) -> Result<(u8, usize), Refusal> {
         match self.rest {
             [tag, high, low, ..] => Ok((*tag, usize::from(*high) * 256 + usize::from(*low))),
-            _ => Err(CUT),
+            _ => Err(self.refuse(CUT)),
         }
     }
 
-    /// The next field's tag and contents: cut comes before everything else about a field.
-    fn field(&mut self) -> Result<(u8, &'a [u8]), Refusal> {
+    /// The next field: cut comes before everything else about it.
+    fn field(&mut self) -> Result<Field<'a>, Refusal> {
         let (tag, length) = self.header()?;
-        let contents = self.rest.get(3..3 + length).ok_or(CUT)?;
-        self.rest = &self.rest[3 + length..];
-        Ok((tag, contents))
+        let contents = self.rest.get(HEADER..HEADER + length).ok_or(self.refuse(CUT))?;
+        let field = Field { place: self.place, tag, contents };
+        self.rest = &self.rest[HEADER + length..];
+        self.place += HEADER + length;
+        Ok(field)
     }
 
-    /// The contents of a field that must have this tag.
-    fn tagged(&mut self, expected: u8) -> Result<&'a [u8], Refusal> {
-        let (tag, contents) = self.field()?;
-        if tag == expected {
-            Ok(contents)
+    /// A field that must have this tag.
+    fn tagged(&mut self, expected: u8) -> Result<Field<'a>, Refusal> {
+        let field = self.field()?;
+        if field.tag == expected {
+            Ok(field)
         } else {
-            Err(WRONG_TAG)
+            Err(field.refuse(WRONG_TAG))
         }
     }
+}
 
-    /// The contents of a field that must have this tag and length.
-    fn fixed<const LENGTH: usize>(&mut self, expected: u8) -> Result<[u8; LENGTH], Refusal> {
-        self.tagged(expected)?.try_into().map_err(|_| WRONG_LENGTH)
+impl<'a> Field<'a> {
+    fn refuse(&self, number: u32) -> Refusal {
+        Refusal::at(number, self.place)
+    }
+
+    /// The contents of a field that must have this length.
+    fn fixed<const LENGTH: usize>(&self) -> Result<[u8; LENGTH], Refusal> {
+        self.contents.try_into().map_err(|_| self.refuse(WRONG_LENGTH))
+    }
+
+    /// Reads the fields inside; their places still count from the message's first octet.
+    fn inside(&self) -> Reader<'a> {
+        Reader { rest: self.contents, place: self.place + HEADER }
     }
 }
 
 pub fn read(octets: &[u8]) -> Result<Request, Refusal> {
-    let mut reader = Reader { rest: octets };
-    let kind = match reader.fixed::<1>(0x01)? {
+    let mut reader = Reader { rest: octets, place: 0 };
+    let first = reader.tagged(0x01)?;
+    let kind = match first.fixed()? {
         [0] => Kind::Get,
         [1] => Kind::GetNext,
         [3] => Kind::Set,
-        _ => return Err(WRONG_HEAD),
+        [_] => return Err(first.refuse(WRONG_HEAD)),
     };
-    let id = u32::from_be_bytes(reader.fixed(0x02)?);
-    if reader.fixed::<2>(0x03)? != [0, 0] {
-        return Err(WRONG_HEAD);
+    let id = u32::from_be_bytes(reader.tagged(0x02)?.fixed()?);
+    let third = reader.tagged(0x03)?;
+    if third.fixed()? != [0, 0] {
+        return Err(third.refuse(WRONG_HEAD));
     }
     let mut bindings = Vec::new();
     while !reader.rest.is_empty() {
         let (tag, _) = reader.header()?;
         if bindings.len() == MOST_BINDINGS && tag == 0x10 {
-            return Err(TOO_MANY);
+            return Err(reader.refuse(TOO_MANY));
         }
-        bindings.push(read_binding(reader.tagged(0x10)?, kind)?);
+        bindings.push(read_binding(reader.tagged(0x10)?.inside(), kind)?);
     }
     Ok(Request { kind, id, bindings })
 }
 
-fn read_binding(octets: &[u8], kind: Kind) -> Result<Binding, Refusal> {
-    let mut reader = Reader { rest: octets };
-    let name = read_name(reader.tagged(0x11)?)?;
-    let (tag, contents) = reader.field()?;
-    let content = read_content(tag, contents, kind)?;
+fn read_binding(mut reader: Reader, kind: Kind) -> Result<Binding, Refusal> {
+    let name = read_name(&reader.tagged(0x11)?)?;
+    let content = read_content(&reader.field()?, kind)?;
     if !reader.rest.is_empty() {
-        return Err(WRONG_LENGTH);
+        return Err(reader.refuse(WRONG_LENGTH));
     }
     Ok(Binding { name, content })
 }
 
-fn read_name(octets: &[u8]) -> Result<Vec<u32>, Refusal> {
+fn read_name(field: &Field) -> Result<Vec<u32>, Refusal> {
+    let octets = field.contents;
     if !octets.len().is_multiple_of(4) || !(2..=128).contains(&(octets.len() / 4)) {
-        return Err(WRONG_LENGTH);
+        return Err(field.refuse(WRONG_LENGTH));
     }
     Ok(octets.chunks_exact(4).map(|sub_id| u32::from_be_bytes(sub_id.try_into().unwrap())).collect())
 }
 
-fn read_content(tag: u8, octets: &[u8], kind: Kind) -> Result<Content, Refusal> {
-    let four = || octets.try_into().map_err(|_| WRONG_LENGTH);
-    match (tag, kind) {
+fn read_content(field: &Field, kind: Kind) -> Result<Content, Refusal> {
+    let octets = field.contents;
+    match (field.tag, kind) {
         (0x20, Kind::Get | Kind::GetNext) if octets.is_empty() => Ok(Content::Null),
-        (0x20, Kind::Get | Kind::GetNext) => Err(WRONG_LENGTH),
-        (0x21, Kind::Set) => Ok(Content::Integer(i32::from_be_bytes(four()?))),
+        (0x20, Kind::Get | Kind::GetNext) => Err(field.refuse(WRONG_LENGTH)),
+        (0x21, Kind::Set) => Ok(Content::Integer(i32::from_be_bytes(field.fixed()?))),
         (0x22, Kind::Set) if octets.len() <= 255 => Ok(Content::String(octets.to_vec())),
-        (0x22, Kind::Set) => Err(WRONG_LENGTH),
-        (0x23, Kind::Set) => Ok(Content::Unsigned(u32::from_be_bytes(four()?))),
-        (0x24, Kind::Set) => Ok(Content::Counter(u32::from_be_bytes(four()?))),
-        _ => Err(WRONG_TAG),
+        (0x22, Kind::Set) => Err(field.refuse(WRONG_LENGTH)),
+        (0x23, Kind::Set) => Ok(Content::Unsigned(u32::from_be_bytes(field.fixed()?))),
+        (0x24, Kind::Set) => Ok(Content::Counter(u32::from_be_bytes(field.fixed()?))),
+        _ => Err(field.refuse(WRONG_TAG)),
     }
 }
 

@@ -2,7 +2,7 @@
 
 use super::message::Refusal;
 
-pub const TIMER_RANGE: Refusal = 10;
+pub const TIMER_RANGE: Refusal = Refusal::of(10);
 
 /// Rounded down.
 pub fn to_256ths(hundredths: u32) -> Result<u32, Refusal> {
