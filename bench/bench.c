@@ -108,8 +108,8 @@ static double time_batch(const struct implementation *by, const struct job *job,
     uint64_t start = now(CLOCK_THREAD_CPUTIME_ID);
 
     for (unsigned i = 0; i < job->calls; i++) {
-        const struct request *request = &workload->asked[i % workload->turns];
-        by->answer(job->bridge, request->octets, request->length, room);
+        const struct octets *request = &workload->asked[i % workload->turns];
+        by->answer(job->bridge, request->at, request->count, room);
     }
     return (double)(now(CLOCK_THREAD_CPUTIME_ID) - start) / job->calls;
 }
@@ -137,13 +137,13 @@ static double time_memcmp(void)
 static void compare_answers(const struct bridge *bridge, const struct workload *workload, struct job *of)
 {
     for (unsigned turn = 0; turn < 2 * workload->turns; turn++) {
-        const struct request *request = &workload->asked[turn % workload->turns];
+        const struct octets *request = &workload->asked[turn % workload->turns];
         uint32_t counts[IMPLEMENTATIONS];
 
         for (size_t i = 0; i < IMPLEMENTATIONS; i++) {
-            counts[i] = implementations[i].answer(of[i].bridge, request->octets, request->length, rooms[i]);
-            REQUIRE(counts[i] >= 16 && rooms[i][14] == RB_NO_ERROR, "%s: %s: no answer, or a fault: %s", bridge->title,
-                    workload->title, implementations[i].title);
+            counts[i] = implementations[i].answer(of[i].bridge, request->at, request->count, rooms[i]);
+            REQUIRE(counts[i] >= HEAD_SIZE && rooms[i][STATUS_AT] == RB_NO_ERROR, "%s: %s: no answer, or a fault: %s",
+                    bridge->title, workload->title, implementations[i].title);
             REQUIRE(counts[i] == counts[0] && memcmp(rooms[i], rooms[0], counts[0]) == 0, "%s: %s: %s differs",
                     bridge->title, workload->title, implementations[i].title);
         }
@@ -171,7 +171,7 @@ static void prepare_errands(const struct agent *snmpd, const struct agent *libra
     static const enum rb_kind kinds[] = {RB_GET, RB_GET_NEXT, RB_GET, RB_GET_NEXT};
     static const unsigned bindings[] = {1, 1, RB_BINDINGS_MAX, RB_BINDINGS_MAX};
     const struct workload *num_ports = &bridges[0].workloads[1];
-    const struct request *request = &num_ports->asked[0];
+    const struct octets *request = &num_ports->asked[0];
     struct errand *own = &errands[LIBRARY_ERRAND];
 
     for (size_t i = 0; i < SNMP_ERRANDS; i++) {
@@ -181,8 +181,8 @@ static void prepare_errands(const struct agent *snmpd, const struct agent *libra
         snprintf(errands[i].title, LINE, "snmpd, %s %u", kinds[i] == RB_GET ? "get" : "get-next", bindings[i]);
     }
     own->agent = library;
-    own->request.length = request->length;
-    memcpy(own->request.octets, request->octets, request->length);
+    own->request.length = request->count;
+    memcpy(own->request.octets, request->at, request->count);
     snprintf(own->title, LINE, "library behind a socket: %s, %s", bridges[0].title, num_ports->title);
 }
 

@@ -68,13 +68,13 @@ static void note(struct depth *depth, size_t octets, const struct bridge *bridge
 
 /* One request as it is, cut by an octet, with octets after it, and on a block that has a wrong last octet. */
 static void try_request(const struct errand *errand, const struct bridge *bridge, const char *what,
-                        const struct request *request)
+                        const struct octets *request)
 {
     static uint8_t block[RB_BLOCK_SIZE], room[RB_MESSAGE_MAX];
     static const char *const how[] = {"", ", cut", ", lengthened", ", damaged block"};
 
     for (unsigned variant = 0; variant < 4; variant++) {
-        struct call call = {block, request->octets, request->length, 0, room};
+        struct call call = {block, request->at, request->count, 0, room};
 
         memcpy(block, bridge->block, sizeof block);
         call.length -= variant == 1;
@@ -87,13 +87,12 @@ static void try_request(const struct errand *errand, const struct bridge *bridge
 /* A get-next after sixteen names that are as long as a request allows. */
 static void try_long_names(const struct errand *errand, const struct bridge *bridge)
 {
-    struct request request = {.length = 0};
-    uint8_t name[80];
-    const uint32_t ids[13] = {7, 1, 4, 3, 1, 5, 4094, 1, 1, 1, 1, 1, 1};
+    struct octets request = {.count = 0};
+    struct name name = name_of("dot1qVlanStaticRowStatus", INDEX(4094, 1, 1, 1, 1, 1, 1));
 
-    start_request(&request, RB_GET_NEXT, 1);
+    request_start(&request, RB_GET_NEXT, 1);
     for (unsigned i = 0; i < RB_BINDINGS_MAX; i++) {
-        put_null(&request, name, put_name(name, ids, 13));
+        ask_for(&request, &name);
     }
     try_request(errand, bridge, "get-next 16: long names", &request);
 }

@@ -15,7 +15,7 @@ struct workload {
     enum rb_kind kind;
     unsigned bindings;
     unsigned turns;
-    struct request asked[TURNS];
+    struct octets asked[TURNS];
 };
 
 struct bridge {

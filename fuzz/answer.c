@@ -1,14 +1,14 @@
 /* Fuzzing of rb_answer: plays the steps of an input (input.h) and checks what must hold of every call.
  *
  *   - the number is 0 to 8; 1 and 2 come exactly where a length says so, 3 comes only where the block was changed or
- * has another length;
+ *     has another length; an offset comes with 4 to 8 alone;
  *   - a refusal has the count 0 and writes nothing; octets behind an answer, and the request, keep what they had;
  *   - the block changes only by a set without a fault, and is legal afterwards;
- *   - an answer is a response that goes with its request (reply.c);
+ *   - an answer is a response that goes with its request, and its values are some that the objects can have (reply.c);
  *   - the same call on other addresses, with other octets in the room, does the same.
  *
  * All octets that are lent stand against a page that must not be touched, at its end or at its start. The archive
- * itself is not instrumented: outcomes are counted here, and the mutator (mutate.c) knows fields and objects. */
+ * itself is not instrumented: outcomes are counted here, and the mutator (mutate.c) knows steps and fields. */
 #define _DEFAULT_SOURCE
 #include "answer.h"
 
@@ -24,7 +24,7 @@
 #include "reply.h"
 #include "start.h"
 
-enum { SPACE = 40960, NUMBERS = 9, STATUSES = 19, AT_STATUS = 14 };
+enum { SPACE = 40960, NUMBERS = 9, STATUSES = 19 };
 
 uint8_t outcomes[OUTCOMES] __attribute__((section("__libfuzzer_extra_counters"), used));
 
@@ -32,8 +32,7 @@ uint8_t outcomes[OUTCOMES] __attribute__((section("__libfuzzer_extra_counters"),
 struct call {
     uint8_t block[STEP_SIZE_MAX];
     size_t block_len;
-    const uint8_t *request;
-    size_t request_len;
+    struct octets request;
     size_t room_len;
     bool patched;
 };
@@ -107,18 +106,20 @@ static bool all_are(const uint8_t *octets, size_t length, uint8_t fill)
 static void play(const struct call *call, bool at_end, uint8_t fill, struct outcome *outcome)
 {
     uint8_t *block = block_space + (at_end ? SPACE - call->block_len : 0);
-    uint8_t *request = request_space + (at_end ? SPACE - call->request_len : 0);
+    uint8_t *request = request_space + (at_end ? SPACE - call->request.count : 0);
     uint8_t *room = room_space + (at_end ? SPACE - call->room_len : 0);
     rb_result result;
 
     memcpy(block, call->block, call->block_len);
-    memcpy(request, call->request, call->request_len);
+    memcpy(request, call->request.at, call->request.count);
     memset(room, fill, call->room_len);
-    result = rb_answer(block, call->block_len, request, call->request_len, room, call->room_len);
-    require(memcmp(request, call->request, call->request_len) == 0, "the request was written");
+    result = rb_answer(block, call->block_len, request, call->request.count, room, call->room_len);
+    require(memcmp(request, call->request.at, call->request.count) == 0, "the request was written");
     require(result.number < NUMBERS, "a number that is not 0 to 8");
     require(result.number == RB_ANSWERED || result.count == 0, "a refusal with a count");
     require(result.count <= call->room_len, "a count over the room's length");
+    require(result.offset == 0 || (result.number >= RB_FIELD_CUT && result.offset <= call->request.count),
+            "an offset that no refusal of the form has");
     require(all_are(room + result.count, call->room_len - result.count, fill), "octets behind the answer were written");
     outcome->result = result;
     memcpy(outcome->block, block, call->block_len);
@@ -128,7 +129,7 @@ static void play(const struct call *call, bool at_end, uint8_t fill, struct outc
 /* Refusals 1 and 2 come exactly where the lengths say so, and first; without a reason in the block there is no 3. */
 static void check_number(const struct call *call, uint32_t number)
 {
-    bool room_short = call->room_len<RB_MESSAGE_MAX, request_long = call->request_len> RB_MESSAGE_MAX;
+    bool room_short = call->room_len<RB_MESSAGE_MAX, request_long = call->request.count> RB_MESSAGE_MAX;
 
     require((number == RB_ROOM_SHORT) == room_short,
             "refusal 1 where the room is long enough, or none where it is not");
@@ -149,14 +150,12 @@ static void check_number(const struct call *call, uint32_t number)
 /* A get without bindings, which every legal block answers. */
 static bool is_legal(const uint8_t *block)
 {
-    static const uint8_t empty[] = {RB_TAG_KIND, 0, 1, RB_GET, RB_TAG_ID, 0, 4, 0, 0, 0, 0, RB_TAG_STATUS, 0, 2, 0, 0};
     static struct call call;
     static struct outcome outcome;
 
     memcpy(call.block, block, RB_BLOCK_SIZE);
     call.block_len = RB_BLOCK_SIZE;
-    call.request = empty;
-    call.request_len = sizeof empty;
+    request_start(&call.request, RB_GET, 0);
     call.room_len = RB_MESSAGE_MAX;
     play(&call, true, 0x5A, &outcome);
     require(outcome.result.number == RB_ANSWERED || outcome.result.number == RB_BLOCK_NOT_LEGAL,
@@ -168,6 +167,7 @@ static bool is_legal(const uint8_t *block)
 static void check_outcome(const struct call *call, const struct outcome *outcome)
 {
     bool changed = memcmp(outcome->block, call->block, call->block_len) != 0;
+    uint8_t status = outcome->room[STATUS_AT];
     const char *flaw;
 
     check_number(call, outcome->result.number);
@@ -175,13 +175,13 @@ static void check_outcome(const struct call *call, const struct outcome *outcome
         require(!changed, "a refusal wrote the block");
         return;
     }
-    flaw = reply_flaw(call->request, call->request_len, outcome->room, outcome->result.count);
+    flaw = reply_flaw(&call->request, outcome->room, outcome->result.count, ports_of(call->block));
     require(flaw == NULL, flaw);
-    require(outcome->room[AT_STATUS] < STATUSES, "a status that there is not");
-    require(!changed || (call->request[3] == RB_SET && outcome->room[AT_STATUS] == 0),
+    require(status < STATUSES, "a status that there is not");
+    require(!changed || (request_kind(&call->request) == RB_SET && status == RB_NO_ERROR),
             "the block was written without an accepted set");
-    statuses[outcome->room[AT_STATUS]]++;
-    reply_outcomes(call->request, outcome->room, outcome->result.count);
+    statuses[status]++;
+    reply_outcomes(&call->request, outcome->room, outcome->result.count);
 }
 
 /* Plays a request twice and checks it; `own` is the bridge, which goes on with what a legal block became. */
@@ -195,6 +195,7 @@ static void play_request(struct call *call, uint8_t *own)
     numbers[one.result.number]++;
     outcomes[one.result.number]++;
     require(one.result.number == other.result.number && one.result.count == other.result.count &&
+                one.result.offset == other.result.offset &&
                 memcmp(one.room, other.room, one.result.count) == 0 &&
                 memcmp(one.block, other.block, call->block_len) == 0,
             "the same call did something else");
@@ -232,7 +233,7 @@ static void patch(struct call *call, const struct step *step)
 int LLVMFuzzerTestOneInput(const uint8_t *octets, size_t length)
 {
     static struct input input;
-    static struct call call;
+    static struct call call; /* a step's contents fit a request of it */
     static uint8_t own[RB_BLOCK_SIZE];
 
     prepare();
@@ -250,8 +251,8 @@ int LLVMFuzzerTestOneInput(const uint8_t *octets, size_t length)
         } else if (step->tag == STEP_SIZE) {
             call.block_len = step_number(step) % (STEP_SIZE_MAX + 1);
         } else {
-            call.request = step->octets;
-            call.request_len = step->length;
+            call.request.count = step->length;
+            memcpy(call.request.at, step->octets, step->length);
             play_request(&call, own);
             lend_whole(&call, own);
         }

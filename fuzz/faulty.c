@@ -1,17 +1,18 @@
 /* A library that breaks one promise, to show that the harness finds it. It is linked before the archive, with the
- * linker's
- * --wrap=rb_answer; FAULT is the number of the promise.
+ * linker's --wrap=rb_answer; FAULT is the number of the promise.
  *
  *   1 an octet behind the answer is written        5 the request is written
  *   2 a refusal has a count                        6 a refusal writes the block
  *   3 the block is not legal after a set           7 an octet behind the request is read
  *   4 a get writes the block                       8 the answer depends on what the room held
- *   9 a fault names no binding                    10 the number is none of 0 to 8 */
+ *   9 a fault names no binding                    10 the number is none of 0 to 8
+ *  11 a value is of another type than its object   12 an accepted set is one that must not be */
 #include <stdlib.h>
 
+#include "message.h"
 #include "refbridge.h"
 
-enum { AT_KIND = 3, AT_STATUS = 14, AT_INDEX = 15, AT_DELETES = 4, AT_FREE = 22 };
+enum { AT_DELETES = 4, AT_FREE = 22, CONTENT_OCTETS = 7 }; /* of a number at the end of an answer, with its header */
 
 rb_result __real_rb_answer(uint8_t *block, size_t block_len, const uint8_t *request, size_t request_len, uint8_t *room,
                            size_t room_len);
@@ -34,10 +35,10 @@ static void break_answer(uint8_t *block, uint8_t *request, size_t request_len, u
         room[result->count] ^= result->count < RB_MESSAGE_MAX;
         break;
     case 3:
-        block[AT_FREE] = request[AT_KIND] == RB_SET && room[AT_STATUS] == 0;
+        block[AT_FREE] = request[KIND_AT] == RB_SET && room[STATUS_AT] == 0;
         break;
     case 4:
-        block[AT_DELETES] ^= request[AT_KIND] != RB_SET;
+        block[AT_DELETES] ^= request[KIND_AT] != RB_SET;
         break;
     case 5:
         request[request_len - 1] ^= 1;
@@ -47,10 +48,21 @@ static void break_answer(uint8_t *block, uint8_t *request, size_t request_len, u
         (void)read_beyond;
         break;
     case 9:
-        room[AT_INDEX] = room[AT_STATUS] > RB_TOO_BIG ? 0 : room[AT_INDEX];
+        room[INDEX_AT] = room[STATUS_AT] > RB_TOO_BIG ? 0 : room[INDEX_AT];
         break;
     case 10:
         result->number = result->count > 100 ? 9 : 0;
+        break;
+    case 11:
+        if (request[KIND_AT] == RB_GET && result->count > HEAD_SIZE + CONTENT_OCTETS &&
+            room[result->count - CONTENT_OCTETS] == RB_TAG_INTEGER) {
+            room[result->count - CONTENT_OCTETS] = RB_TAG_UNSIGNED;
+        }
+        break;
+    case 12:
+        if (request[KIND_AT] == RB_SET && room[STATUS_AT] == RB_NOT_WRITABLE) {
+            room[STATUS_AT] = room[INDEX_AT] = 0;
+        }
         break;
     }
 }

@@ -3,7 +3,9 @@
  *   make_seeds FOLDER CASE-FILE...
  *
  * Every command that a bridge is asked by becomes a step; the player's own reader (host/command.c) makes the requests.
- * A new input starts with each set-up, and after some steps, since short inputs are changed to more purpose. */
+ * A new input starts with each set-up, and after some steps, since short inputs are changed to more purpose; then it has
+ * the last steps of the one before, so that most requests find what they build on. Each is written twice, for a fresh
+ * bridge and for one with full tables. */
 #include <stdio.h>
 #include <stdlib.h>
 #include <string.h>
@@ -14,7 +16,7 @@
 #include "refbridge.h"
 #include "script.h"
 
-enum { SEED_STEPS = 16, SEED_OCTETS = 4096 };
+enum { SEED_STEPS = 16, SEED_OCTETS = 4096, SEED_SHARED = 8 };
 
 static struct input input;
 static size_t input_octets;
@@ -26,24 +28,44 @@ static void stop(const char *why, const char *what)
     exit(1);
 }
 
-/* Writes what there is as one input, and starts the next one with the same ports. */
-static void finish_input(const char *folder)
+/* Writes what there is as one input. */
+static void write_input(const char *folder)
 {
     static uint8_t octets[STEPS_MAX * (STEP_MAX + 3)];
     char path[4096];
     size_t length = input_write(&input, octets, sizeof octets);
     FILE *file;
 
-    if (input.count == 0) {
-        return;
-    }
     snprintf(path, sizeof path, "%s/%04u", folder, written++);
     file = fopen(path, "wb");
     if (file == NULL || fwrite(octets, 1, length, file) != length || fclose(file) != 0) {
         stop("cannot be written", path);
     }
+}
+
+/* Writes the steps for a fresh bridge and for one with full tables, and starts the next input with the same ports. */
+static void finish_input(const char *folder)
+{
+    if (input.count == 0) {
+        return;
+    }
+    write_input(folder);
+    input.start |= START_FULL;
+    write_input(folder);
+    input.start &= START_PORTS;
     input.count = 0;
     input_octets = 0;
+}
+
+/* Goes on in a new input with the last steps of this one. */
+static void continue_input(const char *folder)
+{
+    size_t kept = input.count < SEED_SHARED ? input.count : SEED_SHARED;
+    size_t from = input.count - kept;
+
+    finish_input(folder);
+    memmove(input.steps, input.steps + from, kept * sizeof input.steps[0]);
+    input.count = kept;
 }
 
 static void put_octets(struct step *step, uint8_t tag, const struct octets *octets)
@@ -106,7 +128,7 @@ static void take_command(const char *folder, const struct command *command)
         return;
     }
     if (input.count == SEED_STEPS || input_octets > SEED_OCTETS) {
-        finish_input(folder);
+        continue_input(folder);
     }
     if (put_step(&input.steps[input.count], command)) {
         input_octets += 3 + input.steps[input.count].length;

@@ -1,167 +1,165 @@
-/* The mutator: changes an input by its steps, fields and objects, so that most lengths stay right and inputs reach deep
- * without coverage of the archive. Some changes break the form on purpose. */
-#include <stddef.h>
+/* The mutator: changes an input by its steps and by the fields of its requests, so that most lengths stay right and
+ * inputs reach deep without coverage of the archive. It knows no object: names and values come from the seeds, and go
+ * from one request to another. Some changes break the form on purpose. */
 #include <string.h>
 
 #include "answer.h"
-#include "guess.h"
+#include "dice.h"
 #include "input.h"
+#include "message.h"
 #include "refbridge.h"
 
 /* libFuzzer's own change of octets, or the standalone driver's. */
 size_t LLVMFuzzerMutate(uint8_t *octets, size_t length, size_t room);
 
-/* ---- changes of a request, which have at least one binding to work on ---- */
+enum { BINDINGS = RB_BINDINGS_MAX + 1 }; /* one over what a request may have */
 
-typedef void request_change(struct dice *dice, struct message *message, uint32_t ports);
+/* A request taken apart, so that a part of it can be changed and all lengths are right again. */
+struct request {
+    uint8_t kind;
+    uint32_t id;
+    size_t count;
+    struct binding bindings[BINDINGS];
+};
 
-static struct binding *any_binding(struct dice *dice, struct message *message)
+/* A number at which something ends, or one that nobody thinks of. */
+static uint32_t any_number(struct dice *dice)
 {
-    return &message->bindings[below(dice, (uint32_t)message->count)];
+    static const uint32_t ends[] = {0,    1,    2,    3,     4,     5,       6,          7,          8,
+                                    10,   63,   64,   65,    127,   128,     255,        256,        257,
+                                    4093, 4094, 4095, 65535, 65536, 1000000, 0x7FFFFFFF, 0x80000000, 0xFFFFFFFF};
+
+    return once_in(dice, 6) ? below(dice, UINT32_MAX) : ends[below(dice, sizeof ends / sizeof ends[0])];
 }
 
-static void add_binding(struct dice *dice, struct message *message, uint32_t ports)
+/* ---- changes of a request that has at least one binding ---- */
+
+/* Takes a request apart; false where it has not the form of one, or too many bindings. */
+static bool take_apart(const struct step *step, struct request *request)
 {
-    if (message->count < BINDINGS_READ) {
-        guess_binding(dice, &message->bindings[message->count++], message->kind, ports);
+    struct answer message;
+
+    if (step->tag != STEP_REQUEST || !message_read(&message, step->octets, step->length) ||
+        message.bindings > BINDINGS) {
+        return false;
+    }
+    request->kind = message.kind;
+    request->id = message.id;
+    request->count = 0;
+    while (answer_binding(&message, &request->bindings[request->count])) {
+        if (++request->count == BINDINGS) {
+            break;
+        }
+    }
+    return true;
+}
+
+static void put_together(const struct request *request, struct step *step)
+{
+    struct octets octets;
+
+    request_start(&octets, request->kind, request->id);
+    for (size_t i = 0; i < request->count; i++) {
+        const struct value *value = &request->bindings[i].value;
+
+        request_add(&octets, &request->bindings[i].name, value->tag == RB_TAG_NULL ? NULL : value);
+    }
+    step->length = octets.count < STEP_MAX ? octets.count : STEP_MAX;
+    memcpy(step->octets, octets.at, step->length);
+}
+
+static struct binding *any_binding(struct dice *dice, struct request *request)
+{
+    return &request->bindings[below(dice, (uint32_t)request->count)];
+}
+
+/* Adds a binding of another request, or of the same one. */
+static void add_binding(struct dice *dice, struct request *request, const struct request *other)
+{
+    if (request->count < BINDINGS && other->count > 0) {
+        request->bindings[request->count++] = other->bindings[below(dice, (uint32_t)other->count)];
     }
 }
 
-static void remove_binding(struct dice *dice, struct message *message, uint32_t ports)
+static void remove_binding(struct dice *dice, struct request *request)
 {
-    struct binding *binding = any_binding(dice, message);
+    struct binding *binding = any_binding(dice, request);
 
-    (void)ports;
-    message->count--;
-    *binding = message->bindings[message->count];
+    *binding = request->bindings[--request->count];
 }
 
-static void repeat_binding(struct dice *dice, struct message *message, uint32_t ports)
+static void swap_bindings(struct dice *dice, struct request *request)
 {
-    (void)ports;
-    if (message->count < BINDINGS_READ) {
-        message->bindings[message->count] = *any_binding(dice, message);
-        message->count++;
-    }
-}
+    struct binding *one = any_binding(dice, request), *other = any_binding(dice, request), kept = *one;
 
-static void swap_bindings(struct dice *dice, struct message *message, uint32_t ports)
-{
-    struct binding *one = any_binding(dice, message), *other = any_binding(dice, message);
-    struct binding kept = *one;
-
-    (void)ports;
     *one = *other;
     *other = kept;
 }
 
-static void change_index(struct dice *dice, struct message *message, uint32_t ports)
+/* A sub-id goes up or down by one, or is any number; the last ones are the index. */
+static void change_sub_id(struct dice *dice, struct request *request)
 {
-    struct binding *binding = any_binding(dice, message);
-    const struct object *object = object_of(binding->ids, binding->count);
-    uint32_t index[8];
+    struct name *name = &any_binding(dice, request)->name;
+    uint32_t back = once_in(dice, 2) ? 1 : 1 + below(dice, (uint32_t)name->count);
+    uint32_t *sub = &name->sub[name->count - back];
 
-    if (object != NULL) {
-        name_object(binding, object, index, guess_index(dice, object->shape, ports, index));
-    }
+    *sub = once_in(dice, 2) ? any_number(dice) : *sub + (once_in(dice, 2) ? 1u : UINT32_MAX);
 }
 
-/* Names another column of a row that the request names already. */
-static void add_column(struct dice *dice, struct message *message, uint32_t ports)
+static void change_name_length(struct dice *dice, struct request *request)
 {
-    const struct binding *from = any_binding(dice, message);
-    const struct object *object = object_of(from->ids, from->count), *column;
-    struct binding *to = &message->bindings[message->count];
+    struct name *name = &any_binding(dice, request)->name;
 
-    if (object == NULL || message->count == BINDINGS_READ) {
+    if (once_in(dice, 2)) {
+        name->count -= name->count > NAME_SUBS_MIN;
         return;
     }
-    do {
-        column = guess_object(dice);
-    } while (column->shape != object->shape);
-    size_t before = BRIDGE_IDS + object->count;
-    name_object(to, column, from->ids + before, from->count - before);
-    guess_content(dice, to, message->kind, ports);
-    message->count++;
-}
-
-static void change_sub_id(struct dice *dice, struct message *message, uint32_t ports)
-{
-    struct binding *binding = any_binding(dice, message);
-
-    (void)ports;
-    if (binding->count > 0) {
-        uint32_t *id = &binding->ids[below(dice, (uint32_t)binding->count)];
-        *id = once_in(dice, 2) ? guess_number(dice) : *id + (once_in(dice, 2) ? 1u : UINT32_MAX);
+    for (uint32_t more = once_in(dice, 8) ? NAME_SUBS_MAX : 1; more > 0 && name->count < NAME_SUBS_MAX; more--) {
+        name->sub[name->count++] = any_number(dice);
     }
 }
 
-static void change_name_length(struct dice *dice, struct message *message, uint32_t ports)
+/* A number goes up or down by one or is any number; a string gets another length or other bits. */
+static void change_value(struct dice *dice, struct request *request)
 {
-    struct binding *binding = any_binding(dice, message);
+    struct value *value = &any_binding(dice, request)->value;
+    uint32_t number = any_number(dice);
 
-    (void)ports;
-    if (once_in(dice, 2)) {
-        binding->count -= binding->count > 0;
-        return;
-    }
-    for (uint32_t more = once_in(dice, 8) ? 128 : 1; more > 0 && binding->count < IDS_MAX; more--) {
-        binding->ids[binding->count++] = guess_number(dice);
-    }
-}
-
-static void change_content(struct dice *dice, struct message *message, uint32_t ports)
-{
-    guess_content(dice, any_binding(dice, message), message->kind, ports);
-}
-
-static void change_content_octet(struct dice *dice, struct message *message, uint32_t ports)
-{
-    struct binding *binding = any_binding(dice, message);
-
-    (void)ports;
-    if (binding->length > 0) {
-        binding->octets[below(dice, (uint32_t)binding->length)] ^= (uint8_t)(1u << below(dice, 8));
+    if (value->tag == RB_TAG_STRING && once_in(dice, 2)) {
+        value->count = below(dice, once_in(dice, 4) ? STRING_MAX + 1 : 10);
+    } else if (value->count > 0 && once_in(dice, 2)) {
+        value->octets[value->count - 1 - below(dice, (uint32_t)value->count)] ^= (uint8_t)(1u << below(dice, 8));
+    } else if (value->tag != RB_TAG_STRING && value->count == 4) {
+        for (int i = 0; i < 4; i++) {
+            value->octets[i] = (uint8_t)(number >> (24 - 8 * i));
+        }
     }
 }
 
-static void change_tag_or_length(struct dice *dice, struct message *message, uint32_t ports)
+static void change_type(struct dice *dice, struct request *request)
 {
-    static const uint8_t tags[] = {0x11, 0x1F, 0x20, 0x21, 0x22, 0x23, 0x24, 0x25, 0x30, 0x31, 0x32};
-    struct binding *binding = any_binding(dice, message);
+    static const uint8_t tags[] = {RB_TAG_NULL, RB_TAG_INTEGER, RB_TAG_STRING, RB_TAG_UNSIGNED, RB_TAG_COUNTER};
+    struct value *value = &any_binding(dice, request)->value;
 
-    (void)ports;
-    if (once_in(dice, 2)) {
-        binding->tag = tags[below(dice, sizeof tags)];
-    } else {
-        binding->length = below(dice, once_in(dice, 4) ? CONTENT_MAX : 10);
+    value->tag = tags[below(dice, sizeof tags)];
+    value->count = value->tag == RB_TAG_STRING ? below(dice, 10) : 4;
+}
+
+/* A get, get-next or set of the same names; gets carry null. */
+static void change_kind(struct dice *dice, struct request *request)
+{
+    request->kind = once_in(dice, 12) ? (uint8_t)below(dice, 256) : (uint8_t)below(dice, 4);
+    for (size_t i = 0; i < request->count && request->kind < RB_RESPONSE; i++) {
+        request->bindings[i].value.tag = RB_TAG_NULL;
     }
 }
 
-static void change_kind(struct dice *dice, struct message *message, uint32_t ports)
-{
-    message->kind = once_in(dice, 12) ? (uint8_t)below(dice, 256) : (uint8_t)below(dice, 4);
-    for (size_t i = 0; i < message->count; i++) {
-        guess_content(dice, &message->bindings[i], message->kind, ports);
-    }
-}
-
-static void change_head(struct dice *dice, struct message *message, uint32_t ports)
-{
-    (void)ports;
-    message->id = guess_number(dice);
-    if (once_in(dice, 4)) {
-        message->status = (uint8_t)below(dice, 3);
-        message->index = (uint8_t)below(dice, 3);
-    }
-}
+typedef void request_change(struct dice *dice, struct request *request);
 
 /* Those that keep a request readable stand here more than once. */
 static request_change *const request_changes[] = {
-    add_binding,   add_binding,    add_binding,    add_column,         add_column,           add_column,
-    add_column,    change_index,   change_index,   change_content,     change_content,       change_content,
-    swap_bindings, remove_binding, remove_binding, repeat_binding,     change_sub_id,        change_sub_id,
-    change_kind,   change_head,    change_content, change_name_length, change_content_octet, change_tag_or_length,
+    change_sub_id, change_sub_id, change_sub_id,  change_value,  change_value,       change_value,
+    change_value,  swap_bindings, remove_binding, change_kind,   change_name_length, change_type,
 };
 
 /* ---- changes of a step ---- */
@@ -176,72 +174,36 @@ static void damage(struct dice *dice, struct step *step)
     case 1:
         for (uint32_t more = once_in(dice, 3) ? below(dice, STEP_MAX) : 1 + below(dice, 8);
              more > 0 && step->length < STEP_MAX; more--) {
-            step->octets[step->length++] = (uint8_t)(once_in(dice, 2) ? 0x10 : below(dice, 0x40));
+            step->octets[step->length++] = (uint8_t)(once_in(dice, 2) ? RB_TAG_BINDING : below(dice, 0x40));
         }
         break;
     default:
         if (step->length > 0) {
             uint8_t *octet = &step->octets[below(dice, (uint32_t)step->length)];
-            *octet = once_in(dice, 2) ? (uint8_t)(*octet ^ 1u << below(dice, 8)) : (uint8_t)guess_number(dice);
+            *octet = once_in(dice, 2) ? (uint8_t)(*octet ^ 1u << below(dice, 8)) : (uint8_t)any_number(dice);
         }
     }
 }
 
-/* One column of as many rows as a message can have, from an index on. */
-static void add_rows(struct dice *dice, struct message *message, uint32_t ports)
+static void change_request(struct dice *dice, struct step *step, const struct step *from)
 {
-    const struct object *object = guess_object(dice);
-    uint32_t index[8];
-    size_t count = guess_index(dice, object->shape, ports, index);
+    static struct request request, other;
 
-    while (message->count < RB_BINDINGS_MAX) {
-        struct binding *binding = &message->bindings[message->count++];
-
-        name_object(binding, object, index, count);
-        guess_content(dice, binding, message->kind, ports);
-        index[object->shape == BY_STATIC ? 5 : 0]++;
-    }
-}
-
-static void make_request(struct dice *dice, struct step *step, uint32_t ports)
-{
-    static struct message message;
-
-    memset(&message, 0, sizeof message);
-    message.kind = (uint8_t[]){RB_GET, RB_GET_NEXT, RB_SET, RB_SET}[below(dice, 4)];
-    message.id = guess_number(dice);
-    if (once_in(dice, 8)) {
-        add_rows(dice, &message, ports);
-        parts_write(&message, step);
-        return;
-    }
-    for (uint32_t more = once_in(dice, 6) ? below(dice, BINDINGS_READ) : 1 + below(dice, 4); more > 0; more--) {
-        if (message.count > 0 && once_in(dice, 3)) {
-            add_column(dice, &message, ports);
-        } else {
-            add_binding(dice, &message, ports);
-        }
-    }
-    parts_write(&message, step);
-}
-
-static void change_request(struct dice *dice, struct step *step, uint32_t ports)
-{
-    static struct message message;
-    bool readable = parts_read(&message, step);
-
-    if (!readable && once_in(dice, 2)) {
+    if (!take_apart(step, &request) || once_in(dice, 12)) {
         damage(dice, step);
         return;
+    }
+    if (!take_apart(from, &other)) {
+        other = request;
     }
     for (uint32_t more = 1 + below(dice, 3); more > 0; more--) {
-        request_change *change = request_changes[below(dice, sizeof request_changes / sizeof request_changes[0])];
-        (message.count == 0 ? add_binding : change)(dice, &message, ports);
+        if (request.count == 0 || once_in(dice, 3)) {
+            add_binding(dice, &request, &other);
+        } else {
+            request_changes[below(dice, sizeof request_changes / sizeof request_changes[0])](dice, &request);
+        }
     }
-    parts_write(&message, step);
-    if (once_in(dice, 12)) {
-        damage(dice, step);
-    }
+    put_together(&request, step);
 }
 
 /* A few octets of the block, mostly of those that hold something. */
@@ -252,41 +214,34 @@ static void make_patch(struct dice *dice, struct step *step)
 
     step_put_number(step, STEP_PATCH, once_in(dice, 4) ? below(dice, RB_BLOCK_SIZE) : place);
     for (uint32_t more = 1 + below(dice, 4); more > 0; more--) {
-        step->octets[step->length++] = (uint8_t)(once_in(dice, 3) ? 0 : guess_number(dice));
+        step->octets[step->length++] = (uint8_t)(once_in(dice, 3) ? 0 : any_number(dice));
     }
 }
 
-static void make_step(struct dice *dice, struct step *step, uint32_t ports)
+/* A change of the block, or of a length that the next request is given. */
+static void make_setting(struct dice *dice, struct step *step)
 {
-    switch (below(dice, 16)) {
-    case 0:
-    case 1:
+    if (once_in(dice, 2)) {
         make_patch(dice, step);
-        break;
-    case 2:
+    } else if (once_in(dice, 2)) {
         step_put_number(step, STEP_ROOM,
                         once_in(dice, 2) ? RB_MESSAGE_MAX - 2 + below(dice, 4) : below(dice, STEP_ROOM_MAX));
-        break;
-    case 3:
+    } else {
         step_put_number(step, STEP_SIZE,
                         once_in(dice, 2) ? RB_BLOCK_SIZE - 2 + below(dice, 4) : below(dice, STEP_SIZE_MAX));
-        break;
-    default:
-        make_request(dice, step, ports);
     }
 }
 
-/* ---- changes of an input ---- */
+/* ---- changes of an input that has at least one step ---- */
 
-static void insert_step(struct dice *dice, struct input *input)
+/* Makes room for a step before any other; there is room. */
+static struct step *insert_step(struct dice *dice, struct input *input)
 {
     size_t at = below(dice, (uint32_t)input->count + 1);
 
-    if (input->count < STEPS_MAX) {
-        memmove(&input->steps[at + 1], &input->steps[at], (input->count - at) * sizeof input->steps[0]);
-        input->count++;
-        make_step(dice, &input->steps[at], input_ports(input));
-    }
+    memmove(&input->steps[at + 1], &input->steps[at], (input->count - at) * sizeof input->steps[0]);
+    input->count++;
+    return &input->steps[at];
 }
 
 static void remove_step(struct dice *dice, struct input *input)
@@ -295,25 +250,6 @@ static void remove_step(struct dice *dice, struct input *input)
 
     input->count--;
     memmove(&input->steps[at], &input->steps[at + 1], (input->count - at) * sizeof input->steps[0]);
-}
-
-static void repeat_step(struct dice *dice, struct input *input)
-{
-    if (input->count < STEPS_MAX) {
-        input->steps[input->count] = input->steps[below(dice, (uint32_t)input->count)];
-        input->count++;
-    }
-}
-
-static void change_step(struct dice *dice, struct input *input)
-{
-    struct step *step = &input->steps[below(dice, (uint32_t)input->count)];
-
-    if (step->tag == STEP_REQUEST) {
-        change_request(dice, step, input_ports(input));
-    } else {
-        make_step(dice, step, input_ports(input));
-    }
 }
 
 static void change_start(struct dice *dice, struct input *input)
@@ -326,18 +262,21 @@ static void change_start(struct dice *dice, struct input *input)
 
 static void change_input(struct dice *dice, struct input *input)
 {
+    static struct step copy;
+    const struct step *any = &input->steps[below(dice, (uint32_t)input->count)];
     uint32_t what = below(dice, 20);
 
-    if (input->count == 0 || what < 3) {
-        insert_step(dice, input);
-    } else if (what == 3) {
+    if (what < 2 && input->count < STEPS_MAX) {
+        copy = *any;
+        *insert_step(dice, input) = copy;
+    } else if (what == 2 && input->count < STEPS_MAX) {
+        make_setting(dice, insert_step(dice, input));
+    } else if (what == 3 && input->count > 1) {
         remove_step(dice, input);
     } else if (what == 4) {
-        repeat_step(dice, input);
-    } else if (what == 5) {
         change_start(dice, input);
     } else {
-        change_step(dice, input);
+        change_request(dice, &input->steps[below(dice, (uint32_t)input->count)], any);
     }
 }
 
@@ -346,10 +285,10 @@ size_t LLVMFuzzerCustomMutator(uint8_t *octets, size_t length, size_t room, unsi
     static struct input input;
     struct dice dice = dice_of(seed);
 
-    if (once_in(&dice, 24)) {
+    input_read(&input, octets, length);
+    if (input.count == 0 || once_in(&dice, 24)) {
         return LLVMFuzzerMutate(octets, length, room);
     }
-    input_read(&input, octets, length);
     for (uint32_t more = 1 + below(&dice, 3); more > 0; more--) {
         change_input(&dice, &input);
     }

@@ -1,125 +1,155 @@
 #include "reply.h"
 
 #include <stdbool.h>
-#include <string.h>
 
 #include "answer.h"
 #include "refbridge.h"
 
-enum { HEAD = 16, AT_KIND = 3, AT_STATUS = 14, AT_INDEX = 15, STATUSES = 19, ROOT = 28 };
+enum { STATUSES = 19, PRIORITIES = 8, VLAN_MAX = 4094, OCTET_MAX = 255 };
 
-/* A binding of a message that was found readable. */
-struct binding {
-    const uint8_t *name;
-    size_t name_len;
-    const uint8_t *content; /* its tag, two octets of length, octets */
-};
-
-/* Takes the binding at a place; false after the last one, or where the fields do not fit each other. */
-static bool take_binding(const uint8_t *message, size_t length, size_t *at, struct binding *binding)
+static uint32_t number_of(const struct value *value)
 {
-    const uint8_t *field = message + *at;
-    size_t inside, content_len;
-
-    if (length - *at < 3 + 6 || field[0] != RB_TAG_BINDING || field[3] != RB_TAG_NAME) {
-        return false;
-    }
-    inside = (size_t)field[1] << 8 | field[2];
-    binding->name = field + 6;
-    binding->name_len = (size_t)field[4] << 8 | field[5];
-    if (inside > length - *at - 3 || binding->name_len + 6 > inside) {
-        return false;
-    }
-    binding->content = binding->name + binding->name_len;
-    content_len = (size_t)binding->content[1] << 8 | binding->content[2];
-    *at += 3 + inside;
-    return binding->name_len + content_len + 6 == inside;
+    return (uint32_t)value->octets[0] << 24 | (uint32_t)value->octets[1] << 16 | (uint32_t)value->octets[2] << 8 |
+           value->octets[3];
 }
 
-/* Names compare as their octets do, four to a sub-id; a proper prefix is smaller. */
-static int compare_names(const struct binding *a, const struct binding *b)
+static bool is_port(uint32_t number, uint32_t ports)
 {
-    size_t shorter = a->name_len < b->name_len ? a->name_len : b->name_len;
-    int order = memcmp(a->name, b->name, shorter);
-
-    return order != 0 ? order : (a->name_len > b->name_len) - (a->name_len < b->name_len);
+    return number >= 1 && number <= ports;
 }
 
-static const char *get_flaw(uint8_t kind, const struct binding *asked, const struct binding *got)
+/* True for an index that a bridge with that many ports can have for the object. */
+static bool is_index(const struct object *object, const uint32_t *index, size_t count, uint32_t ports)
 {
-    uint8_t tag = got->content[0];
-    int order = compare_names(got, asked);
-    bool value = tag >= RB_TAG_INTEGER && tag <= RB_TAG_COUNTER;
-
-    if (kind == RB_GET) {
-        if (order != 0) {
-            return "a get is answered with another name";
+    if (count != object_index_subs(object)) {
+        return false;
+    }
+    switch (object->index) {
+    case BY_PORT:
+        return is_port(index[0], ports);
+    case BY_PORT_AND_PRIORITY:
+        return is_port(index[0], ports) && index[1] < PRIORITIES;
+    case BY_VLAN:
+        return index[0] >= 1 && index[0] <= VLAN_MAX;
+    case BY_STATIC:
+        for (size_t i = 0; i + 1 < count; i++) {
+            if (index[i] > OCTET_MAX) {
+                return false;
+            }
         }
-        return value || tag == RB_TAG_NO_SUCH_OBJECT || tag == RB_TAG_NO_SUCH_INSTANCE ? NULL
-                                                                                       : "a get gives no content";
+        return index[count - 1] <= ports;
+    default:
+        return index[0] == 0;
     }
-    if (tag == RB_TAG_END_OF_MIB_VIEW) {
+}
+
+/* True where the object's row of the table allows the value: its type, and its range or length. */
+static bool is_value(const struct object *object, const struct value *value)
+{
+    uint32_t size = value->tag == RB_TAG_STRING ? (uint32_t)value->count : number_of(value);
+
+    return value->tag == object->tag && size >= object->low && size <= object->high;
+}
+
+/* True for an instance of the object table with a value that it can have. */
+static bool is_instance(const struct binding *binding, uint32_t ports)
+{
+    const struct object *object = name_object(&binding->name);
+    size_t before;
+
+    if (object == NULL) {
+        return false;
+    }
+    before = BRIDGE_SUBS + (size_t)object->count;
+    return is_index(object, binding->name.sub + before, binding->name.count - before, ports) &&
+           is_value(object, &binding->value);
+}
+
+static bool is_exception(uint8_t tag)
+{
+    return tag == RB_TAG_NO_SUCH_OBJECT || tag == RB_TAG_NO_SUCH_INSTANCE || tag == RB_TAG_END_OF_MIB_VIEW;
+}
+
+static const char *get_flaw(const struct binding *asked, const struct binding *got)
+{
+    bool known = name_object(&asked->name) != NULL;
+
+    if (name_order(&got->name, &asked->name) != 0) {
+        return "a get is answered with another name";
+    }
+    switch (got->value.tag) {
+    case RB_TAG_NO_SUCH_OBJECT:
+        return known ? "noSuchObject for an object" : NULL;
+    case RB_TAG_NO_SUCH_INSTANCE:
+        return known ? NULL : "noSuchInstance without an object";
+    case RB_TAG_END_OF_MIB_VIEW:
+        return "a get comes to the end of the view";
+    default:
+        return NULL;
+    }
+}
+
+static const char *next_flaw(const struct binding *asked, const struct binding *got)
+{
+    int order = name_order(&got->name, &asked->name);
+
+    if (got->value.tag == RB_TAG_END_OF_MIB_VIEW) {
         return order == 0 ? NULL : "the end of the view has another name";
     }
-    return value && order > 0 ? NULL : "get-next gives no content, or a name that is not above";
+    return order > 0 && !is_exception(got->value.tag) ? NULL : "get-next gives no value, or a name that is not above";
 }
 
-static const char *gets_flaw(const uint8_t *request, size_t request_len, const uint8_t *answer, size_t count)
+static const char *gets_flaw(struct answer request, struct answer answer, uint32_t ports)
 {
-    size_t asked_at = HEAD, got_at = HEAD;
     struct binding asked, got;
 
-    if (answer[AT_STATUS] == RB_TOO_BIG) {
-        return count == HEAD && answer[AT_INDEX] == 0 ? NULL : "tooBig has bindings or an index";
-    }
-    if (answer[AT_STATUS] != 0 || answer[AT_INDEX] != 0) {
+    if (answer.status > RB_TOO_BIG) {
         return "a get is answered with a fault";
     }
-    while (take_binding(request, request_len, &asked_at, &asked)) {
-        if (!take_binding(answer, count, &got_at, &got)) {
-            return "a binding is missing or cannot be read";
-        }
-        const char *flaw = get_flaw(request[AT_KIND], &asked, &got);
+    while (answer_binding(&answer, &got) && answer_binding(&request, &asked)) {
+        const char *flaw = request.kind == RB_GET ? get_flaw(&asked, &got) : next_flaw(&asked, &got);
         if (flaw != NULL) {
             return flaw;
         }
+        if (!is_exception(got.value.tag) && !is_instance(&got, ports)) {
+            return "a value that the object cannot have, or no instance of it";
+        }
     }
-    return asked_at == request_len && got_at == count ? NULL : "octets are left over";
+    return NULL;
 }
 
-static const char *set_flaw(const uint8_t *request, size_t request_len, const uint8_t *answer, size_t count)
+/* A set without a fault writes objects that can be written, with values that they can have. */
+static const char *accepted_flaw(struct answer request, uint32_t ports)
 {
-    size_t at = HEAD, bindings = 0;
     struct binding binding;
 
-    if (count != request_len || memcmp(answer + HEAD, request + HEAD, count - HEAD) != 0) {
-        return "a set is answered with other bindings";
+    while (answer_binding(&request, &binding)) {
+        if (!is_instance(&binding, ports) || name_object(&binding.name)->access != WRITABLE) {
+            return "a set is accepted that writes what cannot be written";
+        }
     }
-    while (take_binding(request, request_len, &at, &binding)) {
-        bindings++;
-    }
-    if (at != request_len) {
-        return "a set that cannot be read is answered";
-    }
-    if (answer[AT_STATUS] == 0) {
-        return answer[AT_INDEX] == 0 ? NULL : "no fault, and an index";
-    }
-    return answer[AT_INDEX] >= 1 && answer[AT_INDEX] <= bindings ? NULL : "a fault that names no binding";
+    return NULL;
 }
 
-const char *reply_flaw(const uint8_t *request, size_t request_len, const uint8_t *answer, size_t count)
+const char *reply_flaw(const struct octets *request, const uint8_t *room, size_t count, uint32_t ports)
 {
-    if (request_len < HEAD || count < HEAD || count > RB_MESSAGE_MAX) {
-        return "an answer of this length, or to a request that has no head";
+    struct answer asked, answer;
+    const char *flaw;
+
+    if (!message_read(&asked, request->at, request->count)) {
+        return "a request that cannot be read is answered";
     }
-    if (answer[AT_KIND] != RB_RESPONSE || memcmp(answer, request, AT_KIND) != 0 ||
-        memcmp(answer + AT_KIND + 1, request + AT_KIND + 1, AT_STATUS - AT_KIND - 1) != 0) {
-        return "an answer that is no response with the request's id";
+    if (!answer_read(&answer, room, count)) {
+        return "an answer that cannot be read";
     }
-    if (request[AT_KIND] == RB_SET) {
-        return set_flaw(request, request_len, answer, count);
+    flaw = answer_flaw(&answer, request);
+    if (flaw != NULL) {
+        return flaw;
     }
-    return gets_flaw(request, request_len, answer, count);
+    if (asked.kind != RB_SET) {
+        return gets_flaw(asked, answer, ports);
+    }
+    return answer.status == RB_NO_ERROR ? accepted_flaw(asked, ports) : NULL;
 }
 
 static void note(size_t outcome)
@@ -129,28 +159,32 @@ static void note(size_t outcome)
     *counter += *counter < UINT8_MAX;
 }
 
-/* Which object a name is of, roughly: the first sub-ids below the bridge, one octet of each. */
-static uint32_t object_hash(const struct binding *binding)
+/* Which object a name is of, roughly: the first sub-ids below the bridge. */
+static uint32_t object_hash(const struct name *name)
 {
     uint32_t hash = 0;
 
-    for (size_t at = ROOT + 3; at < binding->name_len && at < ROOT + 4 * 6; at += 4) {
-        hash = hash * 31 + binding->name[at];
+    for (size_t i = BRIDGE_SUBS; i < name->count && i < BRIDGE_SUBS + OBJECT_SUBS_MAX; i++) {
+        hash = hash * 31 + (name->sub[i] & OCTET_MAX);
     }
     return hash;
 }
 
-void reply_outcomes(const uint8_t *request, const uint8_t *answer, size_t count)
+void reply_outcomes(const struct octets *request, const uint8_t *room, size_t count)
 {
-    uint8_t kind = request[AT_KIND] & 3, status = answer[AT_STATUS] % STATUSES, index = answer[AT_INDEX] % 17;
-    size_t at = HEAD, bindings = 0;
+    uint8_t kind = request_kind(request) & 3, status = room[STATUS_AT] % STATUSES, index = room[INDEX_AT] % 17;
+    size_t bindings = 0;
     struct binding binding;
+    struct answer answer;
 
     note(16 + (size_t)(kind * STATUSES + status) * 17 + index);
-    while (take_binding(answer, count, &at, &binding)) {
+    if (!answer_read(&answer, room, count)) {
+        return;
+    }
+    while (answer_binding(&answer, &binding)) {
         bindings++;
-        if (status == 0 || bindings == index) {
-            note(1400 + (object_hash(&binding) * 64 + binding.content[0] + status * 7u + kind) % 2600);
+        if (status == RB_NO_ERROR || bindings == index) {
+            note(1400 + (object_hash(&binding.name) * 64 + binding.value.tag + status * 7u + kind) % 2600);
         }
     }
 }

@@ -7,6 +7,7 @@
 
 enum {
     ROWS = 256,
+    AT_PORTS = 0,
     AT_VLAN_COUNT = 8,
     AT_STATIC_COUNT = 12,
     AT_VLAN_ROWS = 6196,
@@ -46,6 +47,11 @@ static void put_static_row(uint8_t *row, uint32_t i, uint64_t all_ports)
     row[6] = (uint8_t)(i % 2);
     row[7] = (uint8_t)(3 + i % 3);
     put(row + 8, all_ports, 8);
+}
+
+uint32_t ports_of(const uint8_t *block)
+{
+    return block[AT_PORTS + 3];
 }
 
 void start_bridge(uint8_t *block, uint8_t start)

@@ -5,11 +5,6 @@
 #include "refbridge.h"
 
 #define HEADER_SIZE 3u /* a tag octet and a length of two octets */
-#define HEAD_SIZE 16u  /* fields 01, 02 and 03 */
-#define KIND_AT 3u
-#define ID_AT 7u
-#define STATUS_AT 14u
-#define INDEX_AT 15u
 
 static const uint8_t head[HEAD_SIZE] = {RB_TAG_KIND, 0, 1, 0, RB_TAG_ID, 0, 4, 0, 0, 0, 0, RB_TAG_STATUS, 0, 2, 0, 0};
 
@@ -102,8 +97,8 @@ static bool take_name(struct answer *answer, size_t end, struct name *name)
     return true;
 }
 
-/* True for a content that an answer may hold: a value or an exception, with a length that goes with its tag. */
-static bool is_content(uint8_t tag, size_t length)
+/* True for a content that a message of this kind may hold, with a length that goes with its tag. */
+static bool is_content(uint8_t kind, uint8_t tag, size_t length)
 {
     switch (tag) {
     case RB_TAG_INTEGER:
@@ -112,10 +107,12 @@ static bool is_content(uint8_t tag, size_t length)
         return length == 4;
     case RB_TAG_STRING:
         return length <= STRING_MAX;
+    case RB_TAG_NULL:
+        return length == 0 && kind != RB_RESPONSE;
     case RB_TAG_NO_SUCH_OBJECT:
     case RB_TAG_NO_SUCH_INSTANCE:
     case RB_TAG_END_OF_MIB_VIEW:
-        return length == 0;
+        return length == 0 && kind == RB_RESPONSE;
     default:
         return false;
     }
@@ -126,7 +123,8 @@ static bool take_content(struct answer *answer, size_t end, struct value *value)
     size_t tag_at = answer->place, start;
 
     value->ports = false;
-    if (!take_field(answer, 0, end, &start, &value->count) || !is_content(answer->octets[tag_at], value->count)) {
+    if (!take_field(answer, 0, end, &start, &value->count) ||
+        !is_content(answer->kind, answer->octets[tag_at], value->count)) {
         return false;
     }
     value->tag = answer->octets[tag_at];
@@ -146,36 +144,49 @@ bool answer_binding(struct answer *answer, struct binding *binding)
     return take_name(answer, end, &binding->name) && take_content(answer, end, &binding->value) && answer->place == end;
 }
 
-bool answer_read(struct answer *answer, const uint8_t *octets, size_t count)
+/* True where the octets start as every message does, whatever the four parts are that vary. */
+static bool is_head(const struct answer *message)
+{
+    uint8_t form[HEAD_SIZE];
+
+    memcpy(form, head, HEAD_SIZE);
+    form[KIND_AT] = message->kind;
+    put_number(form + ID_AT, 4, message->id);
+    form[STATUS_AT] = message->status;
+    form[INDEX_AT] = message->index;
+    return memcmp(form, message->octets, HEAD_SIZE) == 0;
+}
+
+bool message_read(struct answer *message, const uint8_t *octets, size_t count)
 {
     struct binding binding;
-    uint8_t form[HEAD_SIZE];
 
     if (count < HEAD_SIZE) {
         return false;
     }
-    *answer = (struct answer){.octets = octets,
-                              .count = count,
-                              .place = HEAD_SIZE,
-                              .id = get_number(octets + ID_AT, 4),
-                              .status = octets[STATUS_AT],
-                              .index = octets[INDEX_AT]};
-    memcpy(form, head, HEAD_SIZE);
-    form[KIND_AT] = RB_RESPONSE;
-    put_number(form + ID_AT, 4, answer->id);
-    form[STATUS_AT] = answer->status;
-    form[INDEX_AT] = answer->index;
-    if (memcmp(form, octets, HEAD_SIZE) != 0) {
+    *message = (struct answer){.octets = octets,
+                               .count = count,
+                               .place = HEAD_SIZE,
+                               .id = get_number(octets + ID_AT, 4),
+                               .kind = octets[KIND_AT],
+                               .status = octets[STATUS_AT],
+                               .index = octets[INDEX_AT]};
+    if (!is_head(message)) {
         return false;
     }
-    while (answer->place < count) {
-        if (!answer_binding(answer, &binding)) {
+    while (message->place < count) {
+        if (!answer_binding(message, &binding)) {
             return false;
         }
-        answer->bindings++;
+        message->bindings++;
     }
-    answer->place = HEAD_SIZE;
+    message->place = HEAD_SIZE;
     return true;
+}
+
+bool answer_read(struct answer *answer, const uint8_t *octets, size_t count)
+{
+    return message_read(answer, octets, count) && answer->kind == RB_RESPONSE;
 }
 
 /* How many bindings a request has that was answered. */

@@ -1,52 +1,62 @@
 #include "objects.h"
 
+#include <string.h>
+
+#include "refbridge.h"
+
+#define INTEGER RB_TAG_INTEGER
+#define UNSIGNED RB_TAG_UNSIGNED
+#define COUNTER RB_TAG_COUNTER
+#define STRING RB_TAG_STRING
+#define NO_VALUES SCALAR, READ_ONLY, RB_TAG_NULL, 0, 0 /* a table */
+
 const uint32_t bridge_name[BRIDGE_SUBS] = {1, 3, 6, 1, 2, 1, 17};
 
 static const struct object objects[] = {
-    {"dot1dBridge", SHOW_TABLE, 0, {0}},
-    {"dot1dBaseBridgeAddress", SHOW_OCTETS, 2, {1, 1}},
-    {"dot1dBaseNumPorts", SHOW_OCTETS, 2, {1, 2}},
-    {"dot1dBaseType", SHOW_OCTETS, 2, {1, 3}},
-    {"dot1dBasePortTable", SHOW_TABLE, 2, {1, 4}},
-    {"dot1dBasePort", SHOW_OCTETS, 4, {1, 4, 1, 1}},
-    {"dot1dBasePortIfIndex", SHOW_OCTETS, 4, {1, 4, 1, 2}},
-    {"dot1dStpPriority", SHOW_OCTETS, 2, {2, 2}},
-    {"dot1dStpBridgeMaxAge", SHOW_OCTETS, 2, {2, 12}},
-    {"dot1dStpBridgeHelloTime", SHOW_OCTETS, 2, {2, 13}},
-    {"dot1dStpBridgeForwardDelay", SHOW_OCTETS, 2, {2, 14}},
-    {"dot1dStpPortTable", SHOW_TABLE, 2, {2, 15}},
-    {"dot1dStpPort", SHOW_OCTETS, 4, {2, 15, 1, 1}},
-    {"dot1dStpPortPriority", SHOW_OCTETS, 4, {2, 15, 1, 2}},
-    {"dot1dStpPortEnable", SHOW_OCTETS, 4, {2, 15, 1, 4}},
-    {"dot1dStpPortPathCost", SHOW_OCTETS, 4, {2, 15, 1, 5}},
-    {"dot1dTpAgingTime", SHOW_OCTETS, 2, {4, 2}},
-    {"dot1dStaticTable", SHOW_TABLE, 2, {5, 1}},
-    {"dot1dStaticAddress", SHOW_OCTETS, 4, {5, 1, 1, 1}},
-    {"dot1dStaticReceivePort", SHOW_OCTETS, 4, {5, 1, 1, 2}},
-    {"dot1dStaticAllowedToGoTo", SHOW_PORTS, 4, {5, 1, 1, 3}},
-    {"dot1dStaticStatus", SHOW_OCTETS, 4, {5, 1, 1, 4}},
-    {"dot1dPortPriorityTable", SHOW_TABLE, 4, {6, 1, 2, 1}},
-    {"dot1dPortDefaultUserPriority", SHOW_OCTETS, 6, {6, 1, 2, 1, 1, 1}},
-    {"dot1dPortNumTrafficClasses", SHOW_OCTETS, 6, {6, 1, 2, 1, 1, 2}},
-    {"dot1dUserPriorityRegenTable", SHOW_TABLE, 4, {6, 1, 2, 2}},
-    {"dot1dRegenUserPriority", SHOW_OCTETS, 6, {6, 1, 2, 2, 1, 2}},
-    {"dot1dTrafficClassTable", SHOW_TABLE, 4, {6, 1, 2, 3}},
-    {"dot1dTrafficClass", SHOW_OCTETS, 6, {6, 1, 2, 3, 1, 2}},
-    {"dot1qVlanVersionNumber", SHOW_OCTETS, 4, {7, 1, 1, 1}},
-    {"dot1qMaxVlanId", SHOW_OCTETS, 4, {7, 1, 1, 2}},
-    {"dot1qMaxSupportedVlans", SHOW_OCTETS, 4, {7, 1, 1, 3}},
-    {"dot1qNumVlans", SHOW_OCTETS, 4, {7, 1, 1, 4}},
-    {"dot1qVlanNumDeletes", SHOW_OCTETS, 4, {7, 1, 4, 1}},
-    {"dot1qVlanStaticTable", SHOW_TABLE, 4, {7, 1, 4, 3}},
-    {"dot1qVlanStaticName", SHOW_TEXT, 6, {7, 1, 4, 3, 1, 1}},
-    {"dot1qVlanStaticEgressPorts", SHOW_PORTS, 6, {7, 1, 4, 3, 1, 2}},
-    {"dot1qVlanForbiddenEgressPorts", SHOW_PORTS, 6, {7, 1, 4, 3, 1, 3}},
-    {"dot1qVlanStaticUntaggedPorts", SHOW_PORTS, 6, {7, 1, 4, 3, 1, 4}},
-    {"dot1qVlanStaticRowStatus", SHOW_OCTETS, 6, {7, 1, 4, 3, 1, 5}},
-    {"dot1qPortVlanTable", SHOW_TABLE, 4, {7, 1, 4, 5}},
-    {"dot1qPvid", SHOW_OCTETS, 6, {7, 1, 4, 5, 1, 1}},
-    {"dot1qPortAcceptableFrameTypes", SHOW_OCTETS, 6, {7, 1, 4, 5, 1, 2}},
-    {"dot1qPortIngressFiltering", SHOW_OCTETS, 6, {7, 1, 4, 5, 1, 3}},
+    {"dot1dBridge", SHOW_TABLE, 0, {0}, NO_VALUES},
+    {"dot1dBaseBridgeAddress", SHOW_OCTETS, 2, {1, 1}, SCALAR, READ_ONLY, STRING, 6, 6},
+    {"dot1dBaseNumPorts", SHOW_OCTETS, 2, {1, 2}, SCALAR, READ_ONLY, INTEGER, 1, 64},
+    {"dot1dBaseType", SHOW_OCTETS, 2, {1, 3}, SCALAR, READ_ONLY, INTEGER, 2, 2},
+    {"dot1dBasePortTable", SHOW_TABLE, 2, {1, 4}, NO_VALUES},
+    {"dot1dBasePort", SHOW_OCTETS, 4, {1, 4, 1, 1}, BY_PORT, READ_ONLY, INTEGER, 1, 64},
+    {"dot1dBasePortIfIndex", SHOW_OCTETS, 4, {1, 4, 1, 2}, BY_PORT, READ_ONLY, INTEGER, 1, 64},
+    {"dot1dStpPriority", SHOW_OCTETS, 2, {2, 2}, SCALAR, WRITABLE, INTEGER, 0, 65535},
+    {"dot1dStpBridgeMaxAge", SHOW_OCTETS, 2, {2, 12}, SCALAR, WRITABLE, INTEGER, 600, 4000},
+    {"dot1dStpBridgeHelloTime", SHOW_OCTETS, 2, {2, 13}, SCALAR, WRITABLE, INTEGER, 100, 1000},
+    {"dot1dStpBridgeForwardDelay", SHOW_OCTETS, 2, {2, 14}, SCALAR, WRITABLE, INTEGER, 400, 3000},
+    {"dot1dStpPortTable", SHOW_TABLE, 2, {2, 15}, NO_VALUES},
+    {"dot1dStpPort", SHOW_OCTETS, 4, {2, 15, 1, 1}, BY_PORT, READ_ONLY, INTEGER, 1, 64},
+    {"dot1dStpPortPriority", SHOW_OCTETS, 4, {2, 15, 1, 2}, BY_PORT, WRITABLE, INTEGER, 0, 255},
+    {"dot1dStpPortEnable", SHOW_OCTETS, 4, {2, 15, 1, 4}, BY_PORT, WRITABLE, INTEGER, 1, 2},
+    {"dot1dStpPortPathCost", SHOW_OCTETS, 4, {2, 15, 1, 5}, BY_PORT, WRITABLE, INTEGER, 1, 65535},
+    {"dot1dTpAgingTime", SHOW_OCTETS, 2, {4, 2}, SCALAR, WRITABLE, INTEGER, 10, 1000000},
+    {"dot1dStaticTable", SHOW_TABLE, 2, {5, 1}, NO_VALUES},
+    {"dot1dStaticAddress", SHOW_OCTETS, 4, {5, 1, 1, 1}, BY_STATIC, READ_ONLY, STRING, 6, 6},
+    {"dot1dStaticReceivePort", SHOW_OCTETS, 4, {5, 1, 1, 2}, BY_STATIC, READ_ONLY, INTEGER, 0, 64},
+    {"dot1dStaticAllowedToGoTo", SHOW_PORTS, 4, {5, 1, 1, 3}, BY_STATIC, WRITABLE, STRING, 0, 8},
+    {"dot1dStaticStatus", SHOW_OCTETS, 4, {5, 1, 1, 4}, BY_STATIC, WRITABLE, INTEGER, 2, 5},
+    {"dot1dPortPriorityTable", SHOW_TABLE, 4, {6, 1, 2, 1}, NO_VALUES},
+    {"dot1dPortDefaultUserPriority", SHOW_OCTETS, 6, {6, 1, 2, 1, 1, 1}, BY_PORT, WRITABLE, INTEGER, 0, 7},
+    {"dot1dPortNumTrafficClasses", SHOW_OCTETS, 6, {6, 1, 2, 1, 1, 2}, BY_PORT, READ_ONLY, INTEGER, 8, 8},
+    {"dot1dUserPriorityRegenTable", SHOW_TABLE, 4, {6, 1, 2, 2}, NO_VALUES},
+    {"dot1dRegenUserPriority", SHOW_OCTETS, 6, {6, 1, 2, 2, 1, 2}, BY_PORT_AND_PRIORITY, WRITABLE, INTEGER, 0, 7},
+    {"dot1dTrafficClassTable", SHOW_TABLE, 4, {6, 1, 2, 3}, NO_VALUES},
+    {"dot1dTrafficClass", SHOW_OCTETS, 6, {6, 1, 2, 3, 1, 2}, BY_PORT_AND_PRIORITY, WRITABLE, INTEGER, 0, 7},
+    {"dot1qVlanVersionNumber", SHOW_OCTETS, 4, {7, 1, 1, 1}, SCALAR, READ_ONLY, INTEGER, 1, 1},
+    {"dot1qMaxVlanId", SHOW_OCTETS, 4, {7, 1, 1, 2}, SCALAR, READ_ONLY, INTEGER, 4094, 4094},
+    {"dot1qMaxSupportedVlans", SHOW_OCTETS, 4, {7, 1, 1, 3}, SCALAR, READ_ONLY, UNSIGNED, 256, 256},
+    {"dot1qNumVlans", SHOW_OCTETS, 4, {7, 1, 1, 4}, SCALAR, READ_ONLY, UNSIGNED, 0, 256},
+    {"dot1qVlanNumDeletes", SHOW_OCTETS, 4, {7, 1, 4, 1}, SCALAR, READ_ONLY, COUNTER, 0, UINT32_MAX},
+    {"dot1qVlanStaticTable", SHOW_TABLE, 4, {7, 1, 4, 3}, NO_VALUES},
+    {"dot1qVlanStaticName", SHOW_TEXT, 6, {7, 1, 4, 3, 1, 1}, BY_VLAN, WRITABLE, STRING, 0, 32},
+    {"dot1qVlanStaticEgressPorts", SHOW_PORTS, 6, {7, 1, 4, 3, 1, 2}, BY_VLAN, WRITABLE, STRING, 0, 8},
+    {"dot1qVlanForbiddenEgressPorts", SHOW_PORTS, 6, {7, 1, 4, 3, 1, 3}, BY_VLAN, WRITABLE, STRING, 0, 8},
+    {"dot1qVlanStaticUntaggedPorts", SHOW_PORTS, 6, {7, 1, 4, 3, 1, 4}, BY_VLAN, WRITABLE, STRING, 0, 8},
+    {"dot1qVlanStaticRowStatus", SHOW_OCTETS, 6, {7, 1, 4, 3, 1, 5}, BY_VLAN, WRITABLE, INTEGER, 1, 6},
+    {"dot1qPortVlanTable", SHOW_TABLE, 4, {7, 1, 4, 5}, NO_VALUES},
+    {"dot1qPvid", SHOW_OCTETS, 6, {7, 1, 4, 5, 1, 1}, BY_PORT, WRITABLE, UNSIGNED, 1, 4094},
+    {"dot1qPortAcceptableFrameTypes", SHOW_OCTETS, 6, {7, 1, 4, 5, 1, 2}, BY_PORT, WRITABLE, INTEGER, 1, 2},
+    {"dot1qPortIngressFiltering", SHOW_OCTETS, 6, {7, 1, 4, 5, 1, 3}, BY_PORT, WRITABLE, INTEGER, 1, 2},
 };
 
 #define OBJECTS (sizeof objects / sizeof objects[0])
@@ -87,4 +97,30 @@ const struct object *object_by_number(const uint32_t *sub, size_t count)
         }
     }
     return NULL;
+}
+
+size_t object_index_subs(const struct object *object)
+{
+    switch (object->index) {
+    case BY_PORT_AND_PRIORITY:
+        return 2;
+    case BY_STATIC:
+        return INDEX_SUBS_MAX;
+    default:
+        return 1;
+    }
+}
+
+size_t object_instance(const struct object *object, const uint32_t *index, size_t count, uint32_t *sub)
+{
+    size_t at = BRIDGE_SUBS;
+
+    memcpy(sub, bridge_name, sizeof bridge_name);
+    for (size_t i = 0; i < object->count; i++) {
+        sub[at++] = object->sub[i];
+    }
+    for (size_t i = 0; i < count; i++) {
+        sub[at++] = index[i];
+    }
+    return at;
 }

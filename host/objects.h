@@ -10,12 +10,22 @@
 /* How an object's string is shown. A table is no object: its name can be given, and no instance is shown by it. */
 enum object_show { SHOW_OCTETS, SHOW_TEXT, SHOW_PORTS, SHOW_TABLE };
 
+/* What the sub-ids after an object's own are: a 0, a port, a port and a priority, a VLAN, an address and a port. */
+enum object_index { SCALAR, BY_PORT, BY_PORT_AND_PRIORITY, BY_VLAN, BY_STATIC };
+#define INDEX_SUBS_MAX 7
+
+enum object_access { READ_ONLY, WRITABLE };
+
 #define OBJECT_SUBS_MAX 6
 struct object {
     const char *name;
     enum object_show show;
     uint8_t count; /* sub-ids after 1.3.6.1.2.1.17 */
     uint8_t sub[OBJECT_SUBS_MAX];
+    enum object_index index;
+    enum object_access access;
+    uint8_t tag;        /* of its values, one of enum rb_tag */
+    uint32_t low, high; /* of its numbers, or of a string's length in octets */
 };
 
 /* All names stand under this one, 1.3.6.1.2.1.17. */
@@ -27,5 +37,11 @@ const struct object *object_by_name(struct text name);
 
 /* The object whose name is a prefix of these sub-ids, or NULL. */
 const struct object *object_by_number(const uint32_t *sub, size_t count);
+
+/* How many sub-ids the index of an instance has. */
+size_t object_index_subs(const struct object *object);
+
+/* The sub-ids of an instance: the bridge's, the object's own, the index. Returns how many they are. */
+size_t object_instance(const struct object *object, const uint32_t *index, size_t count, uint32_t *sub);
 
 #endif

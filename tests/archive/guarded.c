@@ -63,85 +63,89 @@ static void call(void)
         REQUIRE(got.count == 0 && kept(&block, 0) && kept(&room, 0), "call %u: refusal %u has a count or wrote an octet", calls, got.number);
         return;
     }
-    REQUIRE(got.count >= 16 && got.count <= RB_MESSAGE_MAX, "call %u: count %u", calls, got.count);
+    REQUIRE(got.count >= HEAD_SIZE && got.count <= RB_MESSAGE_MAX, "call %u: count %u", calls, got.count);
     REQUIRE(kept(&room, got.count), "call %u: octets behind the answer were written", calls);
-    if (request.octets[3] != RB_SET || room.octets[14] != 0)
+    if (request.octets[KIND_AT] != RB_SET || room.octets[STATUS_AT] != RB_NO_ERROR)
         REQUIRE(kept(&block, 0), "call %u: the block was written", calls);
 }
 
 /* Plays one input with the buffers at the front and at the back of their spaces. */
-static void play(const uint8_t *b, size_t b_len, const struct request *r, size_t room_len)
+static void play(const uint8_t *b, size_t b_len, const struct octets *r, size_t room_len)
 {
     static uint8_t filling[SPACE];
     for (size_t i = 0; i < room_len; i++)
         filling[i] = (uint8_t)chance(256);
     for (int back = 0; back < 2; back++) {
         lend(&block, b, b_len, back);
-        lend(&request, r->octets, r->length, back);
+        lend(&request, r->at, r->count, back);
         lend(&room, filling, room_len, back);
         call();
     }
 }
 
-static void random_binding(struct request *r, enum rb_kind kind)
+/* A name of one of these objects, or of none; most indexes are small, and some have a sub-id too many. */
+static struct name random_name(void)
 {
-    static const uint32_t tables[][6] = {{2, 2}, {2, 15, 1, 2}, {5, 1, 1, 4}, {6, 1, 2, 2, 1, 2}, {7, 1, 4, 3, 1, 5}, {7, 1, 4, 3, 1, 1}, {7, 1, 4, 3, 1, 2}, {7, 1, 4, 5, 1, 1}, {1, 4, 1, 1}, {9}};
-    static const size_t lengths[] = {2, 4, 4, 6, 6, 6, 6, 6, 4, 1};
-    static const size_t indexes[] = {1, 1, 7, 2, 1, 1, 1, 1, 1, 1};
-    uint32_t ids[16], t = chance(10);
-    size_t count = lengths[t];
-    memcpy(ids, tables[t], count * sizeof ids[0]);
-    for (size_t i = 0; i < indexes[t] + (chance(12) == 0); i++)
-        ids[count++] = chance(8) == 0 ? chance(5000) : chance(6);
-    uint8_t name[512], content[255];
-    for (size_t i = 0; i < sizeof content; i++)
-        content[i] = (uint8_t)(chance(3) == 0 ? chance(256) : 0);
-    content[3] = (uint8_t)chance(8);
-    size_t size = put_name(name, ids, count);
-    if (kind != RB_SET)
-        put_null(r, name, size);
-    else if (chance(3) == 0)
-        put_binding(r, name, size, RB_TAG_STRING, content, chance(12) == 0 ? chance(255) : chance(9));
-    else
-        put_binding(r, name, size, chance(4) == 0 ? RB_TAG_UNSIGNED : RB_TAG_INTEGER, content, 4);
+    static const char *const objects[] = {"dot1dStpPriority", "dot1dStpPortPriority", "dot1dStaticStatus", "dot1dRegenUserPriority", "dot1qVlanStaticRowStatus",
+        "dot1qVlanStaticName", "dot1qVlanStaticEgressPorts", "dot1qPvid", "dot1dBasePort", "dot1dBridge"};
+    const char *object = objects[chance(sizeof objects / sizeof objects[0])];
+    size_t count = object_index_subs(object_called(object)) + (chance(12) == 0);
+    uint32_t index[INDEX_SUBS_MAX + 1];
+    for (size_t i = 0; i < count; i++)
+        index[i] = chance(8) == 0 ? chance(5000) : chance(6);
+    return name_of(object, index, count);
 }
 
-static void random_request(struct request *r)
+static void random_binding(struct octets *r, enum rb_kind kind)
+{
+    struct name name = random_name();
+    struct value value = {.tag = RB_TAG_STRING, .count = chance(12) == 0 ? chance(STRING_MAX) : chance(9)};
+    for (size_t i = 0; i < STRING_MAX; i++)
+        value.octets[i] = (uint8_t)(chance(3) == 0 ? chance(256) : 0);
+    value.octets[3] = (uint8_t)chance(8);
+    if (chance(3) != 0) {
+        value.tag = chance(4) == 0 ? RB_TAG_UNSIGNED : RB_TAG_INTEGER;
+        value.count = 4;
+    }
+    request_add(r, &name, kind == RB_SET ? &value : NULL);
+}
+
+static void random_request(struct octets *r)
 {
     static const enum rb_kind kinds[] = {RB_GET, RB_GET_NEXT, RB_SET, RB_SET};
     enum rb_kind kind = kinds[chance(4)];
-    start_request(r, kind, chance(1000000));
+    request_start(r, kind, chance(1000000));
     for (uint32_t n = chance(8) == 0 ? chance(19) : chance(4); n > 0; n--)
         random_binding(r, kind);
 }
 
 /* Changes, cuts or lengthens a request. */
-static void damage(struct request *r)
+static void damage(struct octets *r)
 {
     for (uint32_t n = 1 + chance(3); n > 0; n--) {
-        uint32_t at = chance((uint32_t)r->length + 1);
+        uint32_t at = chance((uint32_t)r->count + 1);
         if (chance(3) == 0)
-            r->length = at;
-        else if (chance(3) == 0 && r->length + 40 < sizeof r->octets)
-            put_number(r, chance(0x40), 1 + chance(4));
-        else if (at < r->length)
-            r->octets[at] = (uint8_t)(chance(2) == 0 ? chance(256) : r->octets[at] ^ (1u << chance(8)));
+            r->count = at;
+        else if (chance(3) == 0 && r->count < OCTETS_MAX)
+            r->at[r->count++] = (uint8_t)chance(0x40);
+        else if (at < r->count)
+            r->at[at] = (uint8_t)(chance(2) == 0 ? chance(256) : r->at[at] ^ (1u << chance(8)));
     }
 }
 
-/* A string that nobody asked for, so that some requests are too long. */
-static void put_padding(struct request *r)
+/* Strings that nobody asked for, so that some requests are too long. */
+static void put_padding(struct octets *r)
 {
-    uint8_t name[64], content[255] = {0};
-    while (r->length <= RB_MESSAGE_MAX)
-        put_binding(r, name, put_name(name, NULL, 0), RB_TAG_STRING, content, sizeof content);
+    static const uint8_t content[STRING_MAX];
+    while (r->count <= RB_MESSAGE_MAX)
+        put_string(r, "dot1dBridge", NULL, 0, content, sizeof content);
 }
 
 static void play_bridge(uint32_t ports)
 {
     static uint8_t own[RB_BLOCK_SIZE], hurt[SPACE];
     static const uint8_t address[RB_ADDRESS_SIZE] = {2, 0, 0, 0, 0, 1};
-    struct request r;
+    struct octets r;
     REQUIRE(rb_setup(own, sizeof own, ports, address, sizeof address).number == 0, "set-up");
     for (unsigned i = 0; i < 400; i++) {
         random_request(&r);

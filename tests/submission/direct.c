@@ -15,126 +15,121 @@ static uint8_t block[RB_BLOCK_SIZE], room[RB_MESSAGE_MAX];
 static unsigned played, refused, faulted;
 
 /* The name that a walk has come to. */
-static uint8_t walked[512];
-static size_t walked_len;
+static struct name walked;
 
-/* Plays one case, which must come to this number and this status. */
-static void play(const struct request *request, uint32_t number, uint32_t status)
+/* Plays one case, which must come to this number and this status. Returns the answer's length. */
+static size_t play(const struct octets *request, uint32_t number, uint32_t status)
 {
-    rb_result got = rb_answer(block, sizeof block, request->octets, request->length, room, sizeof room);
+    rb_result got = rb_answer(block, sizeof block, request->at, request->count, room, sizeof room);
 
     played++;
     REQUIRE(got.number == number, "case %u: number %u, not %u", played, got.number, number);
     if (number != RB_ANSWERED) {
         refused++;
-        return;
+        return 0;
     }
-    REQUIRE(room[14] == status, "case %u: status %u, not %u", played, room[14], status);
-    faulted += status != 0;
+    REQUIRE(room[STATUS_AT] == status, "case %u: status %u, not %u", played, room[STATUS_AT], status);
+    faulted += status != RB_NO_ERROR;
+    return got.count;
 }
 
-static void play_set(const uint32_t *ids, size_t count, uint32_t value, uint32_t status)
+static void play_set(const char *object, const uint32_t *index, size_t count, uint32_t value, uint32_t status)
 {
-    struct request request;
+    struct octets request;
 
-    start_request(&request, RB_SET, played);
-    put_integer(&request, ids, count, RB_TAG_INTEGER, value);
+    request_start(&request, RB_SET, played);
+    put_number(&request, object, index, count, value);
     play(&request, RB_ANSWERED, status);
 }
 
-/* A get that must give this number. */
-static void play_get(const uint32_t *ids, size_t count, uint32_t value)
+/* Asks for one name, and gives the binding of the answer. */
+static struct binding play_ask(uint8_t kind, const struct name *name)
 {
-    struct request request;
-    uint8_t name[64];
-    size_t size = put_name(name, ids, count);
+    struct octets request;
 
-    start_request(&request, RB_GET, played);
-    put_null(&request, name, size);
-    play(&request, RB_ANSWERED, 0);
-    const uint8_t *content = room + 22 + size;
-    uint32_t got = (uint32_t)content[3] << 24 | (uint32_t)content[4] << 16 | (uint32_t)content[5] << 8 | content[6];
-    REQUIRE(content[2] == 4 && got == value, "case %u: the number %u, not %u", played, got, value);
+    request_start(&request, kind, played);
+    ask_for(&request, name);
+    return only_binding(room, play(&request, RB_ANSWERED, RB_NO_ERROR));
+}
+
+/* A get that must give this number. */
+static void play_get(const char *object, uint32_t value)
+{
+    struct name name = name_of(object, INDEX(0));
+    struct binding got = play_ask(RB_GET, &name);
+    const uint8_t *octets = got.value.octets;
+    uint32_t number =
+        (uint32_t)octets[0] << 24 | (uint32_t)octets[1] << 16 | (uint32_t)octets[2] << 8 | (uint32_t)octets[3];
+
+    REQUIRE(got.value.count == 4 && number == value, "case %u: the number %u, not %u", played, number, value);
 }
 
 /* A get of sixteen columns of a VLAN row and of its neighbours. */
 static void play_get_many(uint32_t vlan)
 {
-    struct request request;
-    uint8_t name[64];
+    static const char *const columns[] = {"dot1qVlanStaticName", "dot1qVlanStaticEgressPorts",
+                                          "dot1qVlanForbiddenEgressPorts", "dot1qVlanStaticUntaggedPorts",
+                                          "dot1qVlanStaticRowStatus"};
+    struct octets request;
 
-    start_request(&request, RB_GET, played);
+    request_start(&request, RB_GET, played);
     for (uint32_t i = 0; i < RB_BINDINGS_MAX; i++) {
-        const uint32_t ids[] = {7, 1, 4, 3, 1, 1 + i % 5, vlan + i / 5};
-        put_null(&request, name, put_name(name, ids, 7));
+        struct name name = name_of(columns[i % 5], INDEX(vlan + i / 5));
+        ask_for(&request, &name);
     }
-    play(&request, RB_ANSWERED, 0);
+    play(&request, RB_ANSWERED, RB_NO_ERROR);
 }
 
 /* One step of a walk that starts again at the end. */
 static void play_next(void)
 {
-    struct request request;
+    struct binding next = play_ask(RB_GET_NEXT, &walked);
 
-    start_request(&request, RB_GET_NEXT, played);
-    put_null(&request, walked, walked_len);
-    play(&request, RB_ANSWERED, 0);
-    size_t length = (size_t)room[20] << 8 | room[21];
-    if (room[22 + length] == RB_TAG_END_OF_MIB_VIEW) {
-        walked_len = put_name(walked, NULL, 0);
-        return;
-    }
-    REQUIRE(length <= sizeof walked, "case %u: a name of %zu octets", played, length);
-    memcpy(walked, room + 22, length);
-    walked_len = length;
+    walked = next.value.tag == RB_TAG_END_OF_MIB_VIEW ? name_of("dot1dBridge", NULL, 0) : next.name;
 }
 
 /* A get that lacks its last octet. */
 static void play_cut(void)
 {
-    struct request request;
-    uint8_t name[64];
+    struct octets request;
+    struct name name = name_of("dot1dBaseNumPorts", INDEX(0));
 
-    start_request(&request, RB_GET, played);
-    put_null(&request, name, put_name(name, (const uint32_t[]){1, 2, 0}, 3));
-    request.length--;
-    play(&request, RB_FIELD_CUT, 0);
+    request_start(&request, RB_GET, played);
+    ask_for(&request, &name);
+    request.count--;
+    play(&request, RB_FIELD_CUT, RB_NO_ERROR);
 }
 
 /* A case of one of ten kinds. Two of ten leave a row, so that the tables grow while a bridge is played. */
 static void play_case(uint32_t ports, uint32_t i, uint32_t variant)
 {
-    const uint32_t num_ports[] = {1, 2, 0}, priority[] = {2, 2, 0}, cost[] = {2, 15, 1, 5, ports};
-    const uint32_t vlan[] = {7, 1, 4, 3, 1, 5, 2 + i}, next_vlan[] = {7, 1, 4, 3, 1, 5, 3000 + i};
-    const uint32_t row[] = {5, 1, 1, 4, 2, 0, variant, i, 0, 1, i % (ports + 1)};
-
     switch (i % 10) {
     case 0:
-        play_get(num_ports, 3, ports);
+        play_get("dot1dBaseNumPorts", ports);
         break;
     case 1:
-        play_set(priority, 3, (variant * 250 + i) % 65536, 0);
+        play_set("dot1dStpPriority", INDEX(0), (variant * 250 + i) % 65536, RB_NO_ERROR);
         break;
     case 2:
-        play_get(priority, 3, (variant * 250 + i - 1) % 65536);
+        play_get("dot1dStpPriority", (variant * 250 + i - 1) % 65536);
         break;
     case 3:
-        play_set(vlan, 7, 4 + variant % 2, 0);
+        play_set("dot1qVlanStaticRowStatus", INDEX(2 + i), 4 + variant % 2, RB_NO_ERROR);
         break;
     case 4:
-        play_set(next_vlan, 7, 6, 0);
+        play_set("dot1qVlanStaticRowStatus", INDEX(3000 + i), 6, RB_NO_ERROR);
         break;
     case 5:
         play_get_many(i);
         break;
     case 6:
-        play_set(cost, 5, 0, RB_WRONG_VALUE);
+        play_set("dot1dStpPortPathCost", INDEX(ports), 0, RB_WRONG_VALUE);
         break;
     case 7:
         play_cut();
         break;
     case 8:
-        play_set(row, 11, 3 + variant % 3, 0);
+        play_set("dot1dStaticStatus", INDEX(2, 0, variant, i, 0, 1, i % (ports + 1)), 3 + variant % 3, RB_NO_ERROR);
         break;
     default:
         play_next();
@@ -150,7 +145,7 @@ static void play_thousand(uint32_t variant)
 
         played++;
         REQUIRE(rb_setup(block, sizeof block, ports, address, sizeof address).number == RB_ANSWERED, "set-up");
-        walked_len = put_name(walked, NULL, 0);
+        walked = name_of("dot1dBridge", NULL, 0);
         for (uint32_t i = 1; i < COMMANDS; i++) {
             play_case(ports, i, variant);
         }

@@ -8,7 +8,7 @@ use crate::model::names::{Object, TABLE};
 use crate::player::Failure;
 use crate::step::{History, Step};
 
-fn hex(octets: &[u8]) -> String {
+pub fn hex(octets: &[u8]) -> String {
     octets.iter().map(|octet| format!("{octet:02X}")).collect()
 }
 
@@ -20,7 +20,7 @@ pub fn case_file(history: &History, failure: &Failure) -> String {
     let fresh = Bridge::fresh(start.ports, &start.address).expect("a bridge to start from").image();
     let mut block = start.image();
     for (offset, octets) in changed_runs(&fresh, &block) {
-        lines.push(format!("poke {offset} {}", hex(&octets)));
+        write_poke(&mut lines, offset, &octets);
     }
     for step in &history.steps {
         write_step(&mut lines, &mut block, step);
@@ -32,11 +32,21 @@ pub fn case_file(history: &History, failure: &Failure) -> String {
     lines.join("\n") + "\n"
 }
 
+/// Octets that a line of a case file can hold.
+pub const MOST_OCTETS: usize = 4096;
+
+/// Writes octets of the block, in as many lines as they need.
+pub fn write_poke(lines: &mut Vec<String>, offset: usize, octets: &[u8]) {
+    for (at, part) in octets.chunks(MOST_OCTETS).enumerate() {
+        lines.push(format!("poke {} {}", offset + at * MOST_OCTETS, hex(part)));
+    }
+}
+
 fn write_step(lines: &mut Vec<String>, block: &mut Vec<u8>, step: &Step) {
     match step {
         Step::Poke { offset, octets } => {
             block[*offset..offset + octets.len()].copy_from_slice(octets);
-            lines.push(format!("poke {offset} {}", hex(octets)));
+            write_poke(lines, *offset, octets);
         }
         Step::Call { request, block_len, room_len } => write_call(lines, block, request, *block_len, *room_len),
         Step::Pair { first, second, room_lens } => {

@@ -5,6 +5,9 @@ use super::message::{Binding, Content};
 use super::names::{can_have, split, Object, ObjectType, Shape, Syntax};
 use std::collections::BTreeMap;
 
+/// The VLAN whose made row has all ports in Untagged.
+const DEFAULT_VLAN: u32 = 1;
+
 pub type Fault = u8;
 pub const GEN_ERR: Fault = 5;
 pub const WRONG_TYPE: Fault = 7;
@@ -178,7 +181,9 @@ impl Bridge {
     fn make(&mut self, row: Row) {
         match row {
             Row::Vlan(id) => {
-                self.vlans.insert(id, VlanRow::default());
+                // E8: the default VLAN starts with every port untagged, any other row with none.
+                let untagged = if id == DEFAULT_VLAN { all_ports(self.ports) } else { 0 };
+                self.vlans.insert(id, VlanRow { untagged, ..VlanRow::default() });
             }
             Row::Static(index) => {
                 self.statics.insert(index, StaticRow { allowed: all_ports(self.ports), status: 3 });

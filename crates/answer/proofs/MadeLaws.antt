@@ -1,0 +1,89 @@
+-- A row that an accepted set makes has in each column that no binding names what the paper says (`made` of `SetSays` in specs/Theorems). Assumes nothing.
+use Prim.Native.Nat.{ℕ}
+use mathlib.Core.Path.{_≡_, refl, sym, ap, subst, _∙_}
+use mathlib.Core.Bool.{true, false, true≢false, false≢true}
+use mathlib.Core.Option.{Option, none, some, Option·map, Option·none-ne-some, Option·some-injective}
+use mathlib.Core.List.{List}
+use lib.Dec.{eqb}
+use borrow.Author.Tests.{eqb-true, eq-eqb}
+use Rattle.octets.specs.Parts.{zeros}
+use Rattle.octets.proofs.NumberLaws.{Octets}
+use Rattle.names.specs.Index.{canHave, index}
+use Rattle.names.specs.Table.{objectAt}
+use Rattle.names.specs.Instances.{instanceName}
+use Rattle.names.specs.declared.Shape.the-variants.{Vlan, Static}
+use Rattle.names.proofs.InstanceLaws.{All}
+use Rattle.block.specs.Content.{Content}
+use Rattle.block.specs.Lookup.{lookup}
+use Rattle.block.specs.Valid.{valid, vlanOk, staticOk}
+use Rattle.block.proofs.ValidParts.{Valid, valid-parts}
+use Rattle.block.proofs.KeepLaws.{rowsOk-lookup}
+use Rattle.answer.specs.Values.{Value}
+use Rattle.answer.specs.Get.{get}
+use Rattle.answer.specs.Writes.{field, isStatus, present, ordered, playRow}
+use Rattle.answer.specs.Tables.{Table, vlan, static, create, state, destroy, name, egress, forbidden, untagged, keep, drop, allowed, Row, Status, Field, ColumnOf, rowsOf, shapeOf, columnPlace, madeVlan, statusStep, fieldStep, step}
+use Rattle.answer.specs.Judge.{Asked, Judged, judged}
+use Rattle.answer.specs.Set.{writesTo, verdict, apply, after}
+use Rattle.answer.specs.Theorems.{startOf, columnName}
+use Rattle.answer.proofs.JudgeLaws.{judged-single, judged-unnamed}
+use Rattle.answer.proofs.WriteLaws.{play-row}
+use Rattle.answer.proofs.ContentOrder.{rows-apply}
+use Rattle.answer.proofs.KeepValid.{valid-rising, after-valid}
+use Rattle.answer.proofs.RespondLaws.{accepted-applies}
+use Rattle.answer.proofs.OnlyWriteLaws.{field-started}
+use Rattle.answer.proofs.StoredLaws.{shows, held, row-got, field-quiet}
+
+-- the row that a change of the status column makes shows what a made row starts with
+starts : (n : ℕ) (t : Table) (k : ℕ) (f : Field t) (x : Status t) (r : Row t) → statusStep n t k x none ≡ some r
+    → shows n t (field f) r ≡ startOf n t k (columnPlace t (field f))
+starts n vlan k f (create s) r e = subst (λ r. shows n vlan (field f) r ≡ startOf n vlan k (columnPlace vlan (field f))) (Option·some-injective (madeVlan n k s) r e) (go f)
+  where
+    go : (f : Field vlan) → shows n vlan (field f) (madeVlan n k s) ≡ startOf n vlan k (columnPlace vlan (field f))
+    go (name xs) = refl
+    go (egress s) = refl
+    go (forbidden s) = refl
+    go (untagged s) = refl
+starts n vlan k f (state s) r e = absurd (Option·none-ne-some r e)
+starts n vlan k f destroy r e = absurd (Option·none-ne-some r e)
+starts n static k (allowed s) (keep x) r e = ap (shows n static (field (allowed s))) (sym (Option·some-injective _ r e))
+starts n static k f drop r e = absurd (Option·none-ne-some r e)
+
+-- a row of a valid content has an index that the bridge can have
+can-row : (t : Table) (c : Content) (k : ℕ) → valid c ≡ true → present (lookup k (rowsOf t c)) ≡ true → canHave (c .ports) (shapeOf t) (index (shapeOf t) k) ≡ true
+can-row vlan c k ok p = go (lookup k (c .vlans)) refl p
+  where
+    go : (o : Option (Row vlan)) → lookup k (c .vlans) ≡ o → present o ≡ true → canHave (c .ports) Vlan (index Vlan k) ≡ true
+    go none e q = absurd (false≢true q)
+    go (some r) e q = rowsOk-lookup (c .ports) Vlan (vlanOk (c .ports)) 0 (c .vlans) k r (valid-parts c ok .vlansIn) e .0
+can-row static c k ok p = go (lookup k (c .statics)) refl p
+  where
+    go : (o : Option (Row static)) → lookup k (c .statics) ≡ o → present o ≡ true → canHave (c .ports) Static (index Static k) ≡ true
+    go none e q = absurd (false≢true q)
+    go (some r) e q = rowsOk-lookup (c .ports) Static (staticOk (c .ports)) 0 (c .statics) k r (valid-parts c ok .staticsIn) e .0
+
+absent-none : {R : Type 0} (o : Option R) → present o ≡ false → o ≡ none
+absent-none none e = refl
+absent-none (some r) e = absurd (true≢false e)
+
+pub made-start : (c : Content) (bs : List Asked) → valid c ≡ true → All (λ b. Octets (b .content)) bs → verdict c (judged (c .ports) bs) .status ≡ 0
+    → (t : Table) (k : ℕ) (f : Field t) → present (lookup k (rowsOf t c)) ≡ false → present (lookup k (rowsOf t (after c (judged (c .ports) bs)))) ≡ true
+    → All (λ b. b .name ≡ columnName t k f → ⊥) bs
+    → get (after c (judged (c .ports) bs)) (columnName t k f) ≡ startOf (c .ports) t k (columnPlace t (field f))
+unfolding apply
+made-start c bs ok o e t k f was now un =
+    let n : ℕ = c .ports in
+    let m : List Judged = judged n bs in
+    let few = valid-parts c ok .fewPorts in
+    let ws : List (ℕ × ColumnOf t) = writesTo t m in
+    let applied : after c m ≡ apply c m = accepted-applies c m (eq-eqb (verdict c m .status) 0 e) in
+    let there : present (lookup k (rowsOf t (apply c m))) ≡ true = rw applied at now in
+    let fine : valid (apply c m) ≡ true = subst (λ (d : Content). valid d ≡ true) applied (after-valid c bs ok o) in
+    let row : lookup k (rowsOf t (apply c m)) ≡ playRow (step n t) k (ordered isStatus ws) none =
+    ap (lookup k) (rows-apply t c m) ∙ play-row (step n t) k (rowsOf t c) (ordered isStatus ws) (valid-rising c ok t)
+    ∙ ap (playRow (step n t) k (ordered isStatus ws)) (absent-none (lookup k (rowsOf t c)) was) in
+    rw applied
+    (row-got t (apply c m) k (field f) (can-row t (apply c m) k fine there)
+    ∙ ap (λ (x : Option (Row t)). held (Option·map (shows n t (field f)) x)) row
+    ∙ ap held (field-started (statusStep n t) (fieldStep t) k ws (shows n t (field f)) (startOf n t k (columnPlace t (field f))) (starts n t k f)
+    (λ y. eqb (columnPlace t y) (columnPlace t (field f))) (field-quiet n t f) (judged-unnamed n few t (columnPlace t (field f)) k bs un) (judged-single n few bs t)
+    (sym (ap present row) ∙ there)))
