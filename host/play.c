@@ -1,7 +1,7 @@
 /* Plays case files on the reference bridge and compares the answers with those that the files expect.
  *
  *   play [--quiet | --check | --fill | --manifest] FILE...       a FILE may be - for standard input
- *   play --version | --help
+ *   play --objects | --version | --help
  *
  * Every line of every file is read before the first command is played. cases/FORMAT.md tells how a file is written. */
 #include <errno.h>
@@ -9,6 +9,7 @@
 #include <stdlib.h>
 #include <string.h>
 
+#include "catalogue.h"
 #include "identity.h"
 #include "player.h"
 #include "stopping.h"
@@ -28,14 +29,16 @@ static const char usage[] =
     "  --check     read every file and tell every error; play nothing\n"
     "  --fill      print the one FILE with the answers that it does not expect yet\n"
     "  --manifest  print the manifest of a submission of these files\n"
+    "  --objects   print the objects: name, object identifier, type, access, range, index\n"
     "  --version   print the archive's SHA-256, the kit that proved it, and the requests built in\n"
     "status: 0 same, 1 differs, 2 unreadable (nothing played), 3 nothing compared, 4 stopped or output lost\n";
 
-enum task { TASK_PLAY, TASK_QUIET, TASK_CHECK, TASK_FILL, TASK_MANIFEST, TASK_VERSION, TASK_HELP };
+enum task { TASK_PLAY, TASK_QUIET, TASK_CHECK, TASK_FILL, TASK_MANIFEST, TASK_OBJECTS, TASK_VERSION, TASK_HELP };
 
 static const char *const options[] = {
     [TASK_QUIET] = "--quiet",       [TASK_CHECK] = "--check",     [TASK_FILL] = "--fill",
-    [TASK_MANIFEST] = "--manifest", [TASK_VERSION] = "--version", [TASK_HELP] = "--help",
+    [TASK_MANIFEST] = "--manifest", [TASK_OBJECTS] = "--objects", [TASK_VERSION] = "--version",
+    [TASK_HELP] = "--help",
 };
 
 #define TASKS (sizeof options / sizeof options[0])
@@ -148,7 +151,9 @@ static void print_version(void)
 
 static int without_files(enum task task)
 {
-    if (task == TASK_VERSION) {
+    if (task == TASK_OBJECTS) {
+        catalogue_print();
+    } else if (task == TASK_VERSION) {
         print_version();
     } else {
         fputs(usage, stdout);
@@ -191,7 +196,7 @@ int main(int argc, char **argv)
 {
     struct request request = {.task = TASK_PLAY};
     bool readable = read_arguments(&request, argc, argv);
-    bool takes_files = request.task < TASK_VERSION;
+    bool takes_files = request.task < TASK_OBJECTS;
 
     setvbuf(stdout, NULL, _IOLBF, BUFSIZ); /* what was printed is kept, whatever ends the run */
     if (!readable || takes_files == (request.count == 0) || (request.task == TASK_FILL && request.count != 1)) {
