@@ -138,10 +138,25 @@ static bool read_timer(struct text *text, struct command *command, struct compla
     return read_number(text, "the timer", UINT32_MAX, command, why);
 }
 
+/* The title runs to the end of the line, or to a comment. */
+static bool read_case(struct text *text, struct command *command, struct complaint *why)
+{
+    if (!read_number(text, "the case's id", UINT32_MAX, command, why)) {
+        return false;
+    }
+    text_skip_blanks(text);
+    command->title = (struct text){text->at, text->at};
+    while (!text_is_done(text)) {
+        command->title.end = text_word(text, "").end;
+    }
+    return command->title.at < command->title.end || complain(why, "the case's title is missing");
+}
+
 static const struct {
     const char *word;
     bool (*read)(struct text *text, struct command *command, struct complaint *why);
 } forms[] = {
+    [COMMAND_CASE] = {"case", read_case},
     [COMMAND_BRIDGE] = {"bridge", read_bridge},
     [COMMAND_GET] = {"get", read_names},
     [COMMAND_NEXT] = {"next", read_names},
@@ -189,19 +204,20 @@ bool command_read(struct text line, uint32_t id, struct command *command, struct
 
 bool command_calls(enum command_kind kind)
 {
-    return kind != COMMAND_POKE && kind != COMMAND_SIZE && kind != COMMAND_ROOM;
+    return kind != COMMAND_CASE && kind != COMMAND_POKE && !command_lends(kind);
+}
+
+bool command_lends(enum command_kind kind)
+{
+    return kind == COMMAND_SIZE || kind == COMMAND_ROOM;
+}
+
+bool command_takes_lent(enum command_kind kind)
+{
+    return command_calls(kind) && kind != COMMAND_TO_256THS && kind != COMMAND_TO_HUNDREDTHS;
 }
 
 bool command_needs_bridge(enum command_kind kind)
 {
-    switch (kind) {
-    case COMMAND_BRIDGE:
-    case COMMAND_SIZE:
-    case COMMAND_ROOM:
-    case COMMAND_TO_256THS:
-    case COMMAND_TO_HUNDREDTHS:
-        return false;
-    default:
-        return true;
-    }
+    return kind == COMMAND_POKE || (command_takes_lent(kind) && kind != COMMAND_BRIDGE);
 }

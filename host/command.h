@@ -10,6 +10,7 @@
 #define ROOM_LENT_MAX 4096u
 
 enum command_kind {
+    COMMAND_CASE,
     COMMAND_BRIDGE,
     COMMAND_GET,
     COMMAND_NEXT,
@@ -25,17 +26,24 @@ enum command_kind {
 
 struct command {
     enum command_kind kind;
-    uint32_t number;      /* ports, an offset, a length, a timer */
+    uint32_t number;      /* a case's id, ports, an offset, a length, a timer */
     struct octets octets; /* a request, an address, octets to poke */
     struct name name;     /* where a walk starts */
+    struct text title;    /* of a case */
 };
 
 /* Reads the command of a line. A request that is made here has the line's number as its id, so that an answer can be
  * traced to its line. */
 bool command_read(struct text line, uint32_t id, struct command *command, struct complaint *why);
 
-/* True for a command that calls the library: those are the cases that are counted. */
+/* True for a command that calls the library: those are counted. */
 bool command_calls(enum command_kind kind);
+
+/* True for a command that sets a length for the next call that takes it. */
+bool command_lends(enum command_kind kind);
+
+/* True for a call on a block, which takes the lengths that were set. */
+bool command_takes_lent(enum command_kind kind);
 
 /* True for a command that works on a block, so that a bridge must have been set up before it. */
 bool command_needs_bridge(enum command_kind kind);

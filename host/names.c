@@ -131,19 +131,19 @@ const struct object *name_object(const struct name *name)
     return object_by_number(name->sub, name->count);
 }
 
-void name_print(const struct name *name)
+void name_print(FILE *out, const struct name *name)
 {
     const struct object *object = name_object(name);
     size_t from = 0;
 
     if (object != NULL) {
-        fputs(object->name, stdout);
+        fputs(object->name, out);
         from = BRIDGE_SUBS + (size_t)object->count;
     } else if (is_internet(name)) {
-        putchar('1');
+        putc('1', out);
         from = 1;
     }
     for (size_t i = from; i < name->count; i++) {
-        printf(".%" PRIu32, name->sub[i]);
+        fprintf(out, ".%" PRIu32, name->sub[i]);
     }
 }

@@ -2,6 +2,8 @@
 #ifndef HOST_NAMES_H
 #define HOST_NAMES_H
 
+#include <stdio.h>
+
 #include "objects.h"
 #include "text.h"
 
@@ -26,6 +28,6 @@ bool name_is_under(const struct name *name, const struct name *root);
 const struct object *name_object(const struct name *name);
 
 /* Prints a name in the form that name_take reads. */
-void name_print(const struct name *name);
+void name_print(FILE *out, const struct name *name);
 
 #endif

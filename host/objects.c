@@ -61,6 +61,11 @@ static const struct object objects[] = {
 
 #define OBJECTS (sizeof objects / sizeof objects[0])
 
+const struct object *object_at(size_t place)
+{
+    return place < OBJECTS ? &objects[place] : NULL;
+}
+
 const struct object *object_by_name(struct text name)
 {
     for (size_t i = 0; i < OBJECTS; i++) {

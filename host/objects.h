@@ -32,6 +32,9 @@ struct object {
 #define BRIDGE_SUBS 7
 extern const uint32_t bridge_name[BRIDGE_SUBS];
 
+/* The objects and tables one after the other from 0 on, or NULL after the last. */
+const struct object *object_at(size_t place);
+
 /* The object or table of a name, or NULL. */
 const struct object *object_by_name(struct text name);
 

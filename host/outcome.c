@@ -51,76 +51,76 @@ bool outcome_is_bindings(const struct outcome *outcome)
     return outcome->kind == OUTCOME_ANSWERED && !outcome->set && outcome->answer.bindings > 0;
 }
 
-void octets_print(const uint8_t *octets, size_t count)
+void octets_print(FILE *out, const uint8_t *octets, size_t count)
 {
-    fputs("octets ", stdout);
+    fputs("octets ", out);
     for (size_t i = 0; i < count; i++) {
-        printf("%02X", octets[i]);
+        fprintf(out, "%02X", octets[i]);
     }
 }
 
-static void print_numbered(const char *word, uint32_t number, const char *name)
+static void print_numbered(FILE *out, const char *word, uint32_t number, const char *name)
 {
-    printf("%s %" PRIu32, word, number);
+    fprintf(out, "%s %" PRIu32, word, number);
     if (name != NULL) {
-        printf(" (%s)", name);
+        fprintf(out, " (%s)", name);
     }
 }
 
 /* With the octets around the offset as a comment, so that what is printed is still an expected answer. */
-static void print_refused(const struct outcome *outcome)
+static void print_refused(FILE *out, const struct outcome *outcome)
 {
-    print_numbered("refused", outcome->number, refusal_name(outcome->number));
+    print_numbered(out, "refused", outcome->number, refusal_name(outcome->number));
     if (refusal_has_offset(outcome->number)) {
-        printf(" at %" PRIu32, outcome->offset);
+        fprintf(out, " at %" PRIu32, outcome->offset);
         if (outcome->offset <= outcome->count) {
-            fputs("    # ", stdout);
-            broken_print(stdout, outcome->octets, outcome->count, outcome->offset);
+            fputs("    # ", out);
+            broken_print(out, outcome->octets, outcome->count, outcome->offset);
         }
     }
 }
 
-static void print_answered(const struct outcome *outcome)
+static void print_answered(FILE *out, const struct outcome *outcome)
 {
     if (is_accepted(outcome)) {
-        fputs("accepted", stdout);
+        fputs("accepted", out);
         return;
     }
-    print_numbered("status", outcome->answer.status, status_name(outcome->answer.status));
-    printf(" index %u", outcome->answer.index);
+    print_numbered(out, "status", outcome->answer.status, status_name(outcome->answer.status));
+    fprintf(out, " index %u", outcome->answer.index);
 }
 
-void outcome_print(const struct outcome *outcome)
+void outcome_print(FILE *out, const struct outcome *outcome)
 {
     switch (outcome->kind) {
     case OUTCOME_REFUSED:
-        print_refused(outcome);
+        print_refused(out, outcome);
         break;
     case OUTCOME_SET_UP:
-        fputs("accepted", stdout);
+        fputs("accepted", out);
         break;
     case OUTCOME_CONVERTED:
-        printf("value %" PRIu32, outcome->number);
+        fprintf(out, "value %" PRIu32, outcome->number);
         break;
     case OUTCOME_ANSWERED:
-        print_answered(outcome);
+        print_answered(out, outcome);
         break;
     case OUTCOME_NO_RESPONSE:
-        octets_print(outcome->octets, outcome->count);
+        octets_print(out, outcome->octets, outcome->count);
         break;
     case OUTCOME_WALKED:
-        printf("instances %" PRIu32, outcome->number);
+        fprintf(out, "instances %" PRIu32, outcome->number);
         break;
     }
 }
 
-void outcome_print_beside(const struct outcome *outcome, const struct expected *expected)
+void outcome_print_beside(FILE *out, const struct outcome *outcome, const struct expected *expected)
 {
     if (expected->kind == EXPECTED_OCTETS && has_octets(outcome)) {
-        octets_print(outcome->octets, outcome->count);
+        octets_print(out, outcome->octets, outcome->count);
     } else if (expected_is_binding(expected) && (outcome_is_bindings(outcome) || outcome->kind == OUTCOME_WALKED)) {
-        fputs("no more bindings", stdout);
+        fputs("no more bindings", out);
     } else {
-        outcome_print(outcome);
+        outcome_print(out, outcome);
     }
 }

@@ -2,6 +2,8 @@
 #ifndef HOST_OUTCOME_H
 #define HOST_OUTCOME_H
 
+#include <stdio.h>
+
 #include "expected.h"
 #include "message.h"
 
@@ -28,14 +30,14 @@ struct outcome {
 bool outcome_is(const struct outcome *outcome, const struct expected *expected);
 
 /* Prints an outcome in the form of an expected answer. */
-void outcome_print(const struct outcome *outcome);
+void outcome_print(FILE *out, const struct outcome *outcome);
 
 /* Prints it so that it can be compared with an expected answer that it is not: octets beside octets. */
-void outcome_print_beside(const struct outcome *outcome, const struct expected *expected);
+void outcome_print_beside(FILE *out, const struct outcome *outcome, const struct expected *expected);
 
 /* True where the bindings of the answer say it all, and the status nothing more. */
 bool outcome_is_bindings(const struct outcome *outcome);
 
-void octets_print(const uint8_t *octets, size_t count);
+void octets_print(FILE *out, const uint8_t *octets, size_t count);
 
 #endif

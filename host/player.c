@@ -1,9 +1,11 @@
 #include "player.h"
 
+#include <stdio.h>
 #include <string.h>
 
 #include "message.h"
 #include "refbridge.h"
+#include "stopping.h"
 #include "turn.h"
 
 static struct outcome refused(uint32_t number)
@@ -194,24 +196,48 @@ static void play_command(struct turn *turn)
     bridge_lend_whole(&turn->player->bridge);
 }
 
-void player_play(struct player *player, const struct script *script)
+/* Copies the file up to a place, so that answers stand after their command. */
+static void copy_until(struct turn *turn, size_t *copied, size_t end)
+{
+    if (turn->player->mode == PLAY_FILL) {
+        fwrite(turn->script->text + *copied, 1, end - *copied, stdout);
+        *copied = end;
+    }
+}
+
+/* Plays the command of a line that was checked. */
+static void play_line(struct turn *turn, struct place after)
+{
+    struct player *player = turn->player;
+
+    stopping_note(turn->script->file, turn->line.number, turn->line.text);
+    turn_start(turn, after);
+    if (turn->command.kind == COMMAND_CASE) {
+        player->cases++;
+    } else if (!command_calls(turn->command.kind)) {
+        prepare(&player->bridge, &turn->command);
+    } else {
+        play_command(turn);
+        turn_finish(turn);
+        player->commands++;
+        progress_step(&player->progress, player->commands);
+    }
+}
+
+bool player_play(struct player *player, const struct script *script)
 {
     struct turn turn = {.player = player, .script = script};
     struct place place = SCRIPT_START;
     struct complaint why;
+    size_t copied = 0;
 
     bridge_clear(&player->bridge);
-    while (script_line(script, &place, &turn.line)) {
-        if (turn.line.expected || !command_read(turn.line.text, (uint32_t)turn.line.number, &turn.command, &why)) {
-            continue; /* expected answers are read in their command's turn; no command fails that was checked */
+    while (!ferror(stdout) && script_line(script, &place, &turn.line)) {
+        if (!turn.line.expected && command_read(turn.line.text, (uint32_t)turn.line.number, &turn.command, &why)) {
+            copy_until(&turn, &copied, place.at);
+            play_line(&turn, place);
         }
-        turn_start(&turn, place);
-        if (!command_calls(turn.command.kind)) {
-            prepare(&player->bridge, &turn.command);
-            continue;
-        }
-        play_command(&turn);
-        player->cases++;
-        progress_step(&player->progress, player->cases);
     }
+    copy_until(&turn, &copied, script->size);
+    return fflush(stdout) == 0 && !ferror(stdout);
 }

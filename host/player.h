@@ -6,16 +6,23 @@
 #include "progress.h"
 #include "script.h"
 
+enum play_mode {
+    PLAY_ALL,   /* print every command with its answer */
+    PLAY_QUIET, /* print differences only */
+    PLAY_FILL   /* print the file, with answers where it expects none */
+};
+
 struct player {
-    bool quiet; /* print differences only */
+    enum play_mode mode;
     size_t cases;
+    size_t commands;
     size_t compared;    /* expected lines that were compared */
     size_t differences; /* of those, and flaws of calls */
     struct progress progress;
     struct bridge bridge;
 };
 
-/* Plays a script that was checked. */
-void player_play(struct player *player, const struct script *script);
+/* Plays a script that was checked. False where the output cannot be written: nothing is played after that. */
+bool player_play(struct player *player, const struct script *script);
 
 #endif

@@ -23,10 +23,11 @@ void progress_step(struct progress *progress, size_t done)
     }
     clock_gettime(CLOCK_MONOTONIC, &now);
     passed = (double)(now.tv_sec - progress->last.tv_sec) + (double)(now.tv_nsec - progress->last.tv_nsec) / 1e9;
-    if (passed >= BETWEEN) {
+    if (passed >= BETWEEN || progress->cleared) {
         progress->last = now;
         progress->shown = true;
-        fprintf(stderr, "\r%zu of %zu cases", done, progress->total);
+        progress->cleared = false;
+        fprintf(stderr, "\r%zu of %zu commands", done, progress->total);
         fflush(stderr);
     }
 }
@@ -35,6 +36,7 @@ void progress_clear(struct progress *progress)
 {
     if (progress->shown) {
         progress->shown = false;
+        progress->cleared = true;
         fputs("\r\033[K", stderr);
         fflush(stderr);
     }

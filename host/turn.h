@@ -16,6 +16,8 @@ struct turn {
     struct place next;    /* from here on, no expected binding has been compared yet */
     size_t bindings;      /* expected bindings that were compared */
     size_t more;          /* bindings after the last expected one */
+    size_t differences;   /* of this command */
+    bool expects;         /* an expected answer stands after the command */
     bool shown;           /* the command has been printed */
 };
 
@@ -34,5 +36,8 @@ void turn_octets(struct turn *turn, const uint8_t *octets, size_t count);
 
 /* Counts and prints a flaw: what no call may do, whatever was expected. */
 void turn_flaw(struct turn *turn, const char *flaw);
+
+/* Says how many differences were counted and not printed: a command's first ones are. */
+void turn_finish(struct turn *turn);
 
 #endif

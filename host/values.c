@@ -255,11 +255,11 @@ static bool has_port(const struct value *value, size_t port)
     return at < value->count && (value->octets[at] & 0x80u >> (port - 1) % 8) != 0;
 }
 
-void value_print_ports(const struct value *value)
+void value_print_ports(FILE *out, const struct value *value)
 {
     const char *before = "";
 
-    fputs("ports:", stdout);
+    fputs("ports:", out);
     for (size_t port = 1; port <= RB_PORTS_MAX; port++) {
         size_t low = port;
 
@@ -269,50 +269,50 @@ void value_print_ports(const struct value *value)
         while (port < RB_PORTS_MAX && has_port(value, port + 1)) {
             port++;
         }
-        printf("%s%zu", before, low);
+        fprintf(out, "%s%zu", before, low);
         if (port > low) {
-            printf("-%zu", port);
+            fprintf(out, "-%zu", port);
         }
         before = ",";
     }
     if (*before == '\0') {
-        fputs("none", stdout);
+        fputs("none", out);
     }
 }
 
-static void print_string(const struct value *value, const struct object *object, uint32_t ports)
+static void print_string(FILE *out, const struct value *value, const struct object *object, uint32_t ports)
 {
     if (object != NULL && object->show == SHOW_PORTS && is_port_set(value, ports)) {
-        value_print_ports(value);
+        value_print_ports(out, value);
     } else if (object != NULL && object->show == SHOW_TEXT && is_text(value)) {
-        printf("string:\"%.*s\"", (int)value->count, (const char *)value->octets);
+        fprintf(out, "string:\"%.*s\"", (int)value->count, (const char *)value->octets);
     } else {
-        fputs("hex:", stdout);
+        fputs("hex:", out);
         for (size_t i = 0; i < value->count; i++) {
-            printf("%02X", value->octets[i]);
+            fprintf(out, "%02X", value->octets[i]);
         }
     }
 }
 
-void value_print(const struct value *value, const struct object *object, uint32_t ports)
+void value_print(FILE *out, const struct value *value, const struct object *object, uint32_t ports)
 {
     switch (value->tag) {
     case RB_TAG_INTEGER:
-        printf("integer:%" PRId32, (int32_t)get_number(value));
+        fprintf(out, "integer:%" PRId32, (int32_t)get_number(value));
         break;
     case RB_TAG_UNSIGNED:
-        printf("unsigned:%" PRIu32, get_number(value));
+        fprintf(out, "unsigned:%" PRIu32, get_number(value));
         break;
     case RB_TAG_COUNTER:
-        printf("counter:%" PRIu32, get_number(value));
+        fprintf(out, "counter:%" PRIu32, get_number(value));
         break;
     case RB_TAG_STRING:
-        print_string(value, object, ports);
+        print_string(out, value, object, ports);
         break;
     default:
         for (size_t i = 0; i < EXCEPTIONS; i++) {
             if (exceptions[i].tag == value->tag) {
-                fputs(exceptions[i].word, stdout);
+                fputs(exceptions[i].word, out);
             }
         }
     }

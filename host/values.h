@@ -2,6 +2,8 @@
 #ifndef HOST_VALUES_H
 #define HOST_VALUES_H
 
+#include <stdio.h>
+
 #include "objects.h"
 #include "text.h"
 
@@ -28,9 +30,9 @@ uint8_t value_exception(struct text word);
 bool value_is(const struct value *got, const struct value *expected, uint32_t ports);
 
 /* Prints a content in the form that is read; the object, if known, says how a string is shown. */
-void value_print(const struct value *value, const struct object *object, uint32_t ports);
+void value_print(FILE *out, const struct value *value, const struct object *object, uint32_t ports);
 
 /* Prints a string as a list of ports; ports one after the other are shown as LOW-HIGH. */
-void value_print_ports(const struct value *value);
+void value_print_ports(FILE *out, const struct value *value);
 
 #endif

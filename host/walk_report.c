@@ -29,13 +29,13 @@ static void print_content(const struct binding *binding)
 {
     uint32_t ports = binding->value.count <= 8 ? 8 * (uint32_t)binding->value.count : 0;
 
-    value_print(&binding->value, name_object(&binding->name), ports);
+    value_print(stdout, &binding->value, name_object(&binding->name), ports);
 }
 
 static void print_alone(const char *where, const struct binding *binding)
 {
     printf("%s: ", where);
-    name_print(&binding->name);
+    name_print(stdout, &binding->name);
     fputs(" = ", stdout);
     print_content(binding);
     putchar('\n');
@@ -44,16 +44,16 @@ static void print_alone(const char *where, const struct binding *binding)
 static void print_differing(const uint8_t *entry, const struct binding *ours, const struct binding *theirs)
 {
     fputs("differs: ", stdout);
-    name_print(&ours->name);
+    name_print(stdout, &ours->name);
     fputs(": reference ", stdout);
     if (entry[RB_ENTRY_FIRST_PORT] == 0) {
         print_content(ours);
         fputs(", device ", stdout);
         print_content(theirs);
     } else {
-        value_print_ports(&ours->value);
+        value_print_ports(stdout, &ours->value);
         printf(" (%u members), device ", entry[RB_ENTRY_REFERENCE_MEMBERS]);
-        value_print_ports(&theirs->value);
+        value_print_ports(stdout, &theirs->value);
         printf(" (%u members), first at port %u", entry[RB_ENTRY_DEVICE_MEMBERS], entry[RB_ENTRY_FIRST_PORT]);
     }
     putchar('\n');
@@ -92,7 +92,7 @@ static void print_tail(const struct walk *walk, const rb_walks *walks)
         instances++;
     }
     printf("tail: the %s goes on from ", walks->side == RB_DEVICE ? "device" : "reference");
-    name_print(&first.name);
+    name_print(stdout, &first.name);
     printf(", instances not compared: %zu\n", instances);
 }
 

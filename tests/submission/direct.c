@@ -1,6 +1,6 @@
-/* Plays a submission of 41,000 cases directly through the library's calls, in one process and on one block.
+/* Plays 41,000 commands directly through the library's calls, in one process and on one block.
  *
- * Every thousand is made of the same four bridges and the same kinds of cases, so that its time can be compared with
+ * Every thousand is made of the same four bridges and the same kinds of commands, so that its time can be compared with
  * that of the first; values differ. Prints the time of the first, the middle and the last thousand, and the resident
  * memory before and after. Status 1 where a case is answered wrong or memory grew. */
 #define _DEFAULT_SOURCE
@@ -8,7 +8,7 @@
 
 #include "requests.h"
 
-enum { THOUSANDS = 41, BRIDGES = 4, CASES = 1000 / BRIDGES, MARGIN_KIB = 256 };
+enum { THOUSANDS = 41, BRIDGES = 4, COMMANDS = 1000 / BRIDGES, MARGIN_KIB = 256 };
 
 static const uint32_t port_counts[BRIDGES] = {1, 4, 24, 64};
 static uint8_t block[RB_BLOCK_SIZE], room[RB_MESSAGE_MAX];
@@ -136,7 +136,7 @@ static void play_case(uint32_t ports, uint32_t i, uint32_t variant)
     }
 }
 
-/* The cases of one thousand: a set-up and 249 more, on each of four bridges. */
+/* The commands of one thousand: a set-up and 249 more, on each of four bridges. */
 static void play_thousand(uint32_t variant)
 {
     for (size_t b = 0; b < BRIDGES; b++) {
@@ -146,7 +146,7 @@ static void play_thousand(uint32_t variant)
         played++;
         REQUIRE(rb_setup(block, sizeof block, ports, address, sizeof address).number == RB_ANSWERED, "set-up");
         walked = name_of("dot1dBridge", NULL, 0);
-        for (uint32_t i = 1; i < CASES; i++) {
+        for (uint32_t i = 1; i < COMMANDS; i++) {
             play_case(ports, i, variant);
         }
     }
@@ -195,12 +195,12 @@ int main(void)
     }
     long after = resident();
 
-    printf("%u cases played through rb_answer and rb_setup: %u refused, %u at fault, as expected\n", played, refused,
+    printf("%u commands played through rb_answer and rb_setup: %u refused, %u at fault, as expected\n", played, refused,
            faulted);
-    printf("milliseconds per thousand cases: first %.1f, middle %.1f, last %.1f\n", times[0], times[THOUSANDS / 2],
+    printf("milliseconds per thousand commands: first %.1f, middle %.1f, last %.1f\n", times[0], times[THOUSANDS / 2],
            times[THOUSANDS - 1]);
     printf("resident memory: %ld KiB before, %ld KiB after\n", before, after);
-    REQUIRE(played == THOUSANDS * 1000, "not %u cases", THOUSANDS * 1000);
+    REQUIRE(played == THOUSANDS * 1000, "not %u commands", THOUSANDS * 1000);
     REQUIRE(labs(after - before) <= MARGIN_KIB, "the resident memory changed by over %d KiB", MARGIN_KIB);
     return 0;
 }

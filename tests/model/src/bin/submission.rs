@@ -87,10 +87,13 @@ impl Writer {
         Bridge::from_block(&self.block).expect("scripts leave a legal block")
     }
 
+    /// A case of one command, titled by the command's word.
     fn case(&mut self, command: String) {
+        self.cases += 1;
+        let title = command.split(' ').next().unwrap_or_default();
+        self.lines.push(format!("case {} {title}", self.cases));
         self.lines.append(&mut self.prelude);
         self.lines.push(command);
-        self.cases += 1;
     }
 
     fn expect(&mut self, words: String) {

@@ -1,0 +1,66 @@
+#include "catalogue.h"
+
+#include <inttypes.h>
+#include <stdio.h>
+
+#include "objects.h"
+#include "refbridge.h"
+
+static const char *const indexes[] = {
+    [SCALAR] = "0",
+    [BY_PORT] = "port",
+    [BY_PORT_AND_PRIORITY] = "port.priority",
+    [BY_VLAN] = "vlan",
+    [BY_STATIC] = "address.port",
+};
+
+static const char *type_name(const struct object *object)
+{
+    switch (object->tag) {
+    case RB_TAG_INTEGER:
+        return "integer";
+    case RB_TAG_UNSIGNED:
+        return "unsigned";
+    case RB_TAG_COUNTER:
+        return "counter";
+    default:
+        return object->show == SHOW_PORTS ? "ports" : object->show == SHOW_TEXT ? "string" : "hex";
+    }
+}
+
+static void print_identifier(const struct object *object)
+{
+    char words[80];
+    int length = snprintf(words, sizeof words, "1.3.6.1.2.1.17");
+
+    for (size_t i = 0; i < object->count; i++) {
+        length += snprintf(words + length, sizeof words - (size_t)length, ".%u", object->sub[i]);
+    }
+    printf("%-30s", words);
+}
+
+/* The range of a number, or of a string's length in octets. */
+static void print_object(const struct object *object)
+{
+    char range[40];
+
+    snprintf(range, sizeof range, "%" PRIu32 "..%" PRIu32 "%s", object->low, object->high,
+             object->tag == RB_TAG_STRING ? " octets" : "");
+    printf("%-30s", object->name);
+    print_identifier(object);
+    if (object->show == SHOW_TABLE) {
+        puts("table");
+        return;
+    }
+    printf("%-9s%-10s%-20s%s\n", type_name(object), object->access == WRITABLE ? "writable" : "read-only", range,
+           indexes[object->index]);
+}
+
+void catalogue_print(void)
+{
+    const struct object *object;
+
+    for (size_t i = 0; (object = object_at(i)) != NULL; i++) {
+        print_object(object);
+    }
+}
