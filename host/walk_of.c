@@ -33,7 +33,7 @@ static bool step(struct bridge *bridge, struct binding *binding, size_t *start, 
 bool walk_of(struct bridge *bridge, FILE *file, struct complaint *why)
 {
     struct binding binding = {.name = {.count = NAME_SUBS_MIN}}; /* 0.0, below every instance */
-    size_t start, end;
+    size_t start = 0, end = 0;
 
     for (;;) {
         if (!step(bridge, &binding, &start, &end, why)) {
