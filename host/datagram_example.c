@@ -1,5 +1,7 @@
 /* A program for datagrams: reads an SNMPv2c get of NumPorts as it came from a wire, answers it on a bridge with 4 ports, writes the answer as a datagram,
- * and reads that back as a captured answer. A socket has only to hand over and take these octets. */
+ * and reads that back as a captured answer. A socket has only to hand over and take these octets.
+ *
+ *     cc -std=c11 -Iinclude host/datagram_example.c target/staticlib/librefbridge.a && ./a.out */
 #include <stdio.h>
 #include <stdlib.h>
 #include <string.h>

@@ -2,7 +2,6 @@
 
 pub mod case_file;
 pub mod datagram;
-#[cfg(linked)]
 pub mod datagram_calls;
 pub mod fixed;
 pub mod generate;

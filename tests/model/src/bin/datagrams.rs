@@ -6,7 +6,7 @@ use refbridge_model::datagram::generate::{any_datagram, any_response, damage};
 use refbridge_model::datagram::read::read;
 use refbridge_model::datagram::write::write;
 use refbridge_model::datagram::LONGEST;
-use refbridge_model::datagram_calls::{from_datagram, to_datagram, Given};
+use refbridge_model::datagram_calls::{linked, Calls, Given};
 use refbridge_model::random::Random;
 use std::collections::BTreeMap;
 use std::process::ExitCode;
@@ -18,10 +18,10 @@ const REQUIRED: [&[u32]; 3] =
 /// Comparisons that a round makes at least.
 const LEAST: u64 = 12;
 
-#[derive(Default)]
 struct Compared {
+    calls: Calls,
     numbers: BTreeMap<(usize, u32), u64>,
-    calls: u64,
+    made: u64,
     round_trips: u64,
 }
 
@@ -48,7 +48,8 @@ fn compare_reading(compared: &mut Compared, random: &mut Random, datagram: &[u8]
     for (at, responses) in [(0, false), (1, true)] {
         let before = any_room(random);
         let mut room = before.clone();
-        let got = from_datagram(responses, datagram, &mut room);
+        let call = if responses { compared.calls.from_captured } else { compared.calls.from_datagram };
+        let got = call(datagram, &mut room);
         let (want, want_room) = if before.len() < LONGEST {
             (Given { number: 1, ..Given::default() }, before)
         } else {
@@ -61,7 +62,7 @@ fn compare_reading(compared: &mut Compared, random: &mut Random, datagram: &[u8]
                 }
             }
         };
-        compared.calls += 1;
+        compared.made += 1;
         *compared.numbers.entry((at, want.number)).or_default() += 1;
         if got != want || room != want_room {
             return Err(format!("{}: {got:?}, not {want:?}, of {}", TITLES[at], hex(datagram)));
@@ -78,7 +79,7 @@ fn compare_writing(
 ) -> Result<(), Difference> {
     let before = any_room(random);
     let mut room = before.clone();
-    let got = to_datagram(message, community, &mut room);
+    let got = (compared.calls.to_datagram)(message, community, &mut room);
     let (want, want_room) = if before.len() < LONGEST {
         (Given { number: 1, ..Given::default() }, before)
     } else {
@@ -87,7 +88,7 @@ fn compare_writing(
             Ok(octets) => (Given { count: octets.len() as u32, ..Given::default() }, after(&before, &octets)),
         }
     };
-    compared.calls += 1;
+    compared.made += 1;
     *compared.numbers.entry((2, want.number)).or_default() += 1;
     if got != want || room != want_room {
         return Err(format!("written: {got:?}, not {want:?}, of {} for {}", hex(message), hex(community)));
@@ -101,7 +102,7 @@ fn compare_writing(
 /// What the library wrote is read by the library as what it was.
 fn reads_back(compared: &mut Compared, datagram: &[u8], message: &[u8], community: &[u8]) -> Result<(), Difference> {
     let mut room = vec![0; LONGEST];
-    let got = from_datagram(true, datagram, &mut room);
+    let got = (compared.calls.from_captured)(datagram, &mut room);
     let (at, len) = (got.community.0 as usize, got.community.1 as usize);
     compared.round_trips += 1;
     if got.number != 0 || &room[..got.count as usize] != message || &datagram[at..at + len] != community {
@@ -148,7 +149,11 @@ fn main() -> ExitCode {
     let words: Vec<String> = std::env::args().collect();
     let (seed, rounds) = (option(&words, "--seed", 1), option(&words, "--rounds", 1000));
     let mut random = Random::new(seed);
-    let mut compared = Compared::default();
+    let Some(calls) = linked() else {
+        eprintln!("datagrams: built without the library");
+        return ExitCode::from(2);
+    };
+    let mut compared = Compared { calls, numbers: BTreeMap::new(), made: 0, round_trips: 0 };
     for _ in 0..rounds {
         if let Err(difference) = round(&mut compared, &mut random) {
             println!("{difference}");
@@ -162,8 +167,8 @@ fn main() -> ExitCode {
         println!("{title}, by number: {}", counts.join(", "));
         missing += REQUIRED[at].iter().filter(|&&number| count(number) == 0).count();
     }
-    println!("{rounds} rounds, {} calls, {} read back, 0 differences", compared.calls, compared.round_trips);
-    if missing > 0 || compared.calls < LEAST * rounds || compared.round_trips == 0 {
+    println!("{rounds} rounds, {} calls, {} read back, 0 differences", compared.made, compared.round_trips);
+    if missing > 0 || compared.made < LEAST * rounds || compared.round_trips == 0 {
         println!("{missing} numbers never came up, or fewer calls than {LEAST} a round");
         return ExitCode::FAILURE;
     }

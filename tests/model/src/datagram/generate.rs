@@ -70,7 +70,8 @@ fn any_content(random: &mut Random, kind: u8) -> Vec<u8> {
         SET => CONTENTS[1 + random.below(4)].0,
         _ => CONTENTS[random.below(8)].0,
     };
-    let tag = if random.chance(1) { random.pick(&[0x05, 0x02, 0x04, 0x24, 0x40, 0x43, 0x46, 0x80, 0x1F]) } else { usual };
+    let tag =
+        if random.chance(1) { random.pick(&[0x05, 0x02, 0x04, 0x24, 0x40, 0x43, 0x46, 0x80, 0x1F]) } else { usual };
     let contents = match tag {
         tag::STRING if random.chance(10) => {
             let size = random.pick(&[127, 128, 254, 255, 256, 300]);
