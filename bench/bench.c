@@ -1,10 +1,12 @@
 /* Measures the library, the floor, an ordinary implementation and snmpd in one run, side by side.
  *
  *   bench [PORT PROCESS]      the UDP port and the process id of a running snmpd; without them it is left out
+ *   bench calls WORKLOAD      only the calls of one workload, by its number, for callgrind to count
  *
  * bench/run builds and starts this program; docs/PERFORMANCE.md tells how to read what it prints. */
 #define _DEFAULT_SOURCE
 #include "agent.h"
+#include "calls.h"
 #include "figures.h"
 #include "stack.h"
 #include "tally.h"
@@ -303,10 +305,23 @@ static void print_rules(void)
            PARTS_OF_SNMPD * slowest <= snmpd ? "PASS" : "NOT ", slowest / snmpd, PARTS_OF_SNMPD);
 }
 
+/* The calls of one workload on 64 ports with full tables, and its title. */
+static int play_one(size_t number)
+{
+    REQUIRE(number < WORKLOADS, "no such workload");
+    make_bridge(&bridges[0], "64 ports, full", 64, true);
+    play_counted(&bridges[0], &bridges[0].workloads[number]);
+    printf("%s\n", bridges[0].workloads[number].title);
+    return 0;
+}
+
 int main(int argc, char **argv)
 {
     struct agent snmpd, library;
 
+    if (argc == 3 && strcmp(argv[1], "calls") == 0) {
+        return play_one(strtoul(argv[2], NULL, 10));
+    }
     make_bridge(&bridges[0], "4 ports, fresh", 4, false);
     make_bridge(&bridges[1], "4 ports, full", 4, true);
     make_bridge(&bridges[2], "64 ports, fresh", 64, false);
