@@ -7,11 +7,8 @@
 #include "refbridge.h"
 
 static const char *const indexes[] = {
-    [SCALAR] = "0",
-    [BY_PORT] = "port",
-    [BY_PORT_AND_PRIORITY] = "port.priority",
-    [BY_VLAN] = "vlan",
-    [BY_STATIC] = "address.port",
+    [SCALAR] = "0",     [BY_PORT] = "port",           [BY_PORT_AND_PRIORITY] = "port.priority",
+    [BY_VLAN] = "vlan", [BY_STATIC] = "address.port",
 };
 
 static const char *type_name(const struct object *object)

@@ -36,9 +36,8 @@ static const char usage[] =
 enum task { TASK_PLAY, TASK_QUIET, TASK_CHECK, TASK_FILL, TASK_MANIFEST, TASK_OBJECTS, TASK_VERSION, TASK_HELP };
 
 static const char *const options[] = {
-    [TASK_QUIET] = "--quiet",       [TASK_CHECK] = "--check",     [TASK_FILL] = "--fill",
-    [TASK_MANIFEST] = "--manifest", [TASK_OBJECTS] = "--objects", [TASK_VERSION] = "--version",
-    [TASK_HELP] = "--help",
+    [TASK_QUIET] = "--quiet",     [TASK_CHECK] = "--check",     [TASK_FILL] = "--fill", [TASK_MANIFEST] = "--manifest",
+    [TASK_OBJECTS] = "--objects", [TASK_VERSION] = "--version", [TASK_HELP] = "--help",
 };
 
 #define TASKS (sizeof options / sizeof options[0])

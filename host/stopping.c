@@ -12,9 +12,11 @@ static const struct {
     int number;
     const char *words;
 } signals[] = {
-    {SIGABRT, "an abort (SIGABRT)"},      {SIGSEGV, "a bad address (SIGSEGV)"}, {SIGBUS, "a bad address (SIGBUS)"},
-    {SIGILL, "a bad instruction (SIGILL)"}, {SIGFPE, "arithmetic (SIGFPE)"},     {SIGTRAP, "a trap (SIGTRAP)"},
-    {SIGINT, "the keyboard (SIGINT)"},    {SIGTERM, "a request (SIGTERM)"},     {SIGHUP, "a closed terminal (SIGHUP)"},
+    {SIGABRT, "an abort (SIGABRT)"},        {SIGSEGV, "a bad address (SIGSEGV)"},
+    {SIGBUS, "a bad address (SIGBUS)"},     {SIGILL, "a bad instruction (SIGILL)"},
+    {SIGFPE, "arithmetic (SIGFPE)"},        {SIGTRAP, "a trap (SIGTRAP)"},
+    {SIGINT, "the keyboard (SIGINT)"},      {SIGTERM, "a request (SIGTERM)"},
+    {SIGHUP, "a closed terminal (SIGHUP)"},
 };
 
 #define SIGNALS (sizeof signals / sizeof signals[0])
