@@ -104,19 +104,18 @@ static int write_walk(struct bridge *bridge, const char *walk)
 /* Plays the cases quietly: only what differs from the expected answers is printed, and then no walk is written. */
 static int of_cases(const char *cases, const char *walk)
 {
-    static struct player player = {.quiet = true};
+    static struct player player = {.mode = PLAY_QUIET};
     struct script script = {0};
+    struct ids ids = {.any = false};
     struct complaint why;
-    size_t line = 0;
     int status = STATUS_UNREADABLE;
 
     if (!script_load(&script, cases, &why)) {
         status = unreadable(cases, why.words);
-    } else if (!script_check(&script, &line, &why)) {
-        fprintf(stderr, "%s:%zu: %s\n", cases, line, why.words);
-    } else {
-        player_play(&player, &script);
-        if (player.differences > 0) {
+    } else if (script_check(&script, &ids) == 0) {
+        if (!player_play(&player, &script)) {
+            status = unreadable("walks", "the output cannot be written");
+        } else if (player.differences > 0) {
             status = STATUS_DIFFERED;
         } else if (player.bridge.ports == 0) {
             status = unreadable(cases, "no bridge is set up");
