@@ -13,6 +13,18 @@ static const char *const refusals[] = {
     [RB_TOO_MANY_BINDINGS] = "17th binding",
     [RB_SETUP_REFUSED] = "set-up refused",
     [RB_TIMER_RANGE] = "timer out of range",
+    [RB_EVENT_UNKNOWN] = "event or case unknown",
+    [RB_START_REFUSED] = "start refused",
+    [RB_VERDICT_REFUSED] = "verdict refused",
+    [RB_RUN_ENDED] = "run has ended",
+    [RB_RUN_NOT_LEGAL] = "run not legal",
+    [RB_BER_BROKEN] = "BER broken",
+    [RB_VERSION_WRONG] = "version not SNMPv2c",
+    [RB_PDU_NOT_TAKEN] = "kind of PDU not taken",
+    [RB_NO_COUNTERPART] = "no counterpart",
+    [RB_DATAGRAM_LONG] = "datagram too long",
+    [RB_CONSOLE_WRONG] = "frame wrong",
+    [RB_CONSOLE_LONG] = "frame too long",
 };
 
 static const struct {
