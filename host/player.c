@@ -68,6 +68,9 @@ static struct outcome ask(struct player *player, const struct octets *request, s
     struct outcome outcome;
 
     *reply = bridge_answer(bridge, request);
+    if (player->witness != NULL) {
+        player->witness(player, request, reply);
+    }
     if (reply->number != RB_ANSWERED) {
         outcome = refused(reply->number);
         outcome.offset = reply->offset;
@@ -133,7 +136,7 @@ static bool step(struct turn *turn, struct binding *next, struct outcome *outcom
     request_add(request, &name, NULL);
     *outcome = ask(turn->player, request, &reply);
     note_flaw(turn, reply.flaw);
-    if (outcome->kind != OUTCOME_ANSWERED || !answer_binding(&outcome->answer, next) ||
+    if (turn->player->stopped || outcome->kind != OUTCOME_ANSWERED || !answer_binding(&outcome->answer, next) ||
         next->value.tag == RB_TAG_END_OF_MIB_VIEW || !name_is_under(&next->name, &turn->command.name)) {
         return false;
     }
@@ -240,4 +243,24 @@ bool player_play(struct player *player, const struct script *script)
     }
     copy_until(&turn, &copied, script->size);
     return fflush(stdout) == 0 && !ferror(stdout);
+}
+
+void player_play_case(struct player *player, const struct script *script, struct place place)
+{
+    struct turn turn = {.player = player, .script = script};
+    struct complaint why;
+
+    while (!player->stopped && script_line(script, &place, &turn.line)) {
+        if (turn.line.expected || !command_read(turn.line.text, (uint32_t)turn.line.number, &turn.command, &why)) {
+            continue;
+        }
+        if (turn.command.kind == COMMAND_CASE) {
+            return;
+        }
+        player->line = turn.line;
+        play_line(&turn, place);
+        if (player->differed_at == 0 && turn.differences > 0) {
+            player->differed_at = turn.line.number;
+        }
+    }
 }

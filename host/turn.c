@@ -38,7 +38,7 @@ static bool count_difference(struct turn *turn)
 {
     turn->player->differences++;
     turn->differences++;
-    if (turn->differences > DIFFERENCES_SHOWN) {
+    if (turn->differences > DIFFERENCES_SHOWN || turn->player->mode == PLAY_SILENT) {
         return false;
     }
     show_command(turn, differences_to(turn));
@@ -253,8 +253,8 @@ void turn_flaw(struct turn *turn, const char *flaw)
 
 void turn_finish(struct turn *turn)
 {
-    if (turn->differences > DIFFERENCES_SHOWN) {
-        fprintf(differences_to(turn), "%s:%zu: %zu more differences of this command are not shown\n", turn->script->file,
-                turn->line.number, turn->differences - DIFFERENCES_SHOWN);
+    if (turn->differences > DIFFERENCES_SHOWN && turn->player->mode != PLAY_SILENT) {
+        fprintf(differences_to(turn), "%s:%zu: %zu more differences of this command are not shown\n",
+                turn->script->file, turn->line.number, turn->differences - DIFFERENCES_SHOWN);
     }
 }

@@ -1,0 +1,152 @@
+#define _POSIX_C_SOURCE 200809L
+#include "link.h"
+
+#include <errno.h>
+#include <poll.h>
+#include <string.h>
+#include <time.h>
+#include <unistd.h>
+
+#include "message.h"
+
+#define KIND_AT 3u /* of our form: the kind, and the request id */
+#define ID_AT 7u
+#define ID_SIZE 4u
+#define DATAGRAM_MAX 65536
+
+/* PDU tags of RFC 3416. */
+enum { PDU_GET = 0xA0, PDU_GET_NEXT = 0xA1, PDU_SET = 0xA3 };
+
+bool link_open(struct link *link, const char *words, struct complaint *why)
+{
+    if (!peer_find(&link->peer, words, why)) {
+        return false;
+    }
+    link->socket = socket(link->peer.address.ss_family, SOCK_DGRAM, 0);
+    return link->socket >= 0 || complain(why, "no socket: %s", strerror(errno));
+}
+
+void link_close(struct link *link)
+{
+    close(link->socket);
+}
+
+static uint8_t pdu_tag(uint8_t kind)
+{
+    return kind == RB_SET ? PDU_SET : kind == RB_GET_NEXT ? PDU_GET_NEXT : PDU_GET;
+}
+
+/* The size of a BER header: a tag, and a length of one octet or of as many more as its first says. */
+static size_t header_size(const uint8_t *at)
+{
+    return (at[1] & 0x80u) == 0 ? 2 : 2 + (at[1] & 0x7Fu);
+}
+
+/* Where the PDU's tag stands: after the version, which has three octets, and the community. */
+static size_t pdu_at(const uint8_t *datagram, size_t community)
+{
+    size_t at = header_size(datagram) + 3;
+
+    return at + header_size(datagram + at) + community;
+}
+
+uint32_t link_datagram(const struct octets *request, uint32_t id, const char *community, uint8_t *out, size_t *count)
+{
+    static uint8_t message[OCTETS_MAX];
+    size_t length = strlen(community);
+    rb_result result;
+
+    memcpy(message, request->at, request->count);
+    message[KIND_AT] = RB_RESPONSE; /* a response has the same form; only its tag differs */
+    for (size_t i = 0; i < ID_SIZE; i++) {
+        message[ID_AT + i] = (uint8_t)(id >> 8 * (ID_SIZE - 1 - i));
+    }
+    result = rb_to_datagram(message, request->count, (const uint8_t *)community, length, out, RB_MESSAGE_MAX);
+    if (result.number == RB_ANSWERED) {
+        out[pdu_at(out, length)] = pdu_tag(request_kind(request));
+    }
+    *count = result.count;
+    return result.number;
+}
+
+/* Judges a datagram that came; what is no answer to the last request is counted and dropped. */
+static bool is_answer(struct link *link, const struct peer *from, const uint8_t *datagram, size_t length,
+                      uint8_t *answer, size_t *count)
+{
+    rb_datagram read;
+    uint32_t id = 0;
+
+    if (!peer_is(from, &link->peer)) {
+        link->strange++;
+        return false;
+    }
+    read = rb_from_captured(datagram, length, answer, RB_MESSAGE_MAX);
+    if (read.number != RB_ANSWERED || answer[KIND_AT] != RB_RESPONSE) {
+        link->unreadable++;
+        return false;
+    }
+    if (read.community_len != strlen(link->community) ||
+        memcmp(datagram + read.community_at, link->community, read.community_len) != 0) {
+        link->foreign++;
+        return false;
+    }
+    for (size_t i = 0; i < ID_SIZE; i++) {
+        id = id << 8 | answer[ID_AT + i];
+    }
+    if (id != link->id) {
+        link->late++;
+        return false;
+    }
+    *count = read.count;
+    return true;
+}
+
+static long milliseconds(void)
+{
+    struct timespec now;
+
+    clock_gettime(CLOCK_MONOTONIC, &now);
+    return (long)now.tv_sec * 1000 + now.tv_nsec / 1000000;
+}
+
+static bool wait_answer(struct link *link, uint8_t *answer, size_t *count)
+{
+    static uint8_t datagram[DATAGRAM_MAX];
+    long end = milliseconds() + link->timeout, left;
+
+    while ((left = end - milliseconds()) >= 0) {
+        struct pollfd waits = {.fd = link->socket, .events = POLLIN};
+        struct peer from = {.length = sizeof from.address};
+        ssize_t got;
+
+        if (poll(&waits, 1, (int)left) <= 0) {
+            continue; /* the time is over, or a signal came */
+        }
+        got = recvfrom(link->socket, datagram, sizeof datagram, 0, (struct sockaddr *)&from.address, &from.length);
+        if (got >= 0 && is_answer(link, &from, datagram, (size_t)got, answer, count)) {
+            return true;
+        }
+    }
+    return false;
+}
+
+bool link_ask(struct link *link, const struct octets *request, uint8_t answer[RB_MESSAGE_MAX], size_t *count)
+{
+    static uint8_t datagram[RB_MESSAGE_MAX];
+    unsigned tries = request_kind(request) == RB_SET ? 1 : 1 + link->retries;
+    size_t length;
+
+    for (; tries > 0 && link->ids_left > 0; tries--) {
+        link->id++;
+        link->ids_left--;
+        if (link_datagram(request, link->id, link->community, datagram, &length) != RB_ANSWERED) {
+            return false; /* every request was tried before the night */
+        }
+        sendto(link->socket, datagram, length, 0, (struct sockaddr *)&link->peer.address, link->peer.length);
+        if (wait_answer(link, answer, count)) {
+            memcpy(answer + ID_AT, request->at + ID_AT, ID_SIZE);
+            return true;
+        }
+    }
+    return false;
+}

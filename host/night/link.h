@@ -1,0 +1,33 @@
+/* The switch under test: requests go out as SNMPv2c datagrams, and only the answer to the last one comes back. */
+#ifndef NIGHT_LINK_H
+#define NIGHT_LINK_H
+
+#include "net.h"
+#include "refbridge.h"
+#include "text.h"
+
+struct link {
+    int socket;
+    struct peer peer;
+    const char *community;
+    int timeout;       /* milliseconds */
+    unsigned retries;  /* of a get or get-next; a set is sent once */
+    uint32_t id;       /* of the last request; no id is used twice */
+    size_t ids_left;   /* before the next ones must be noted */
+    size_t late;       /* answers with another id */
+    size_t strange;    /* from another source */
+    size_t foreign;    /* of another community */
+    size_t unreadable; /* that are no response */
+};
+
+bool link_open(struct link *link, const char *words, struct complaint *why);
+
+/* Writes a request of our form as a datagram with this id and community. Returns 0, or the number that refuses it. */
+uint32_t link_datagram(const struct octets *request, uint32_t id, const char *community, uint8_t *out, size_t *count);
+
+/* Asks the switch. False where no answer comes; else `answer` is a message, with the request's own id. */
+bool link_ask(struct link *link, const struct octets *request, uint8_t answer[RB_MESSAGE_MAX], size_t *count);
+
+void link_close(struct link *link);
+
+#endif

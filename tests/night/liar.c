@@ -1,0 +1,100 @@
+/* A switch that misbehaves: it hands each datagram on to an agent, and its answer back, but not as it should.
+ *
+ *   liar PORT AGENT_PORT MODE N
+ *
+ * From the N-th datagram on, counted from 1: `lie` changes the last octet of each answer, `silent` answers nothing. The
+ * N-th alone: `deaf` drops its answer, `late` sends it 400 ms later. Each one: `repeat` sends the answer twice,
+ * `elsewhere` first sends another one from another port, `foreign` first one of another community. */
+#define _POSIX_C_SOURCE 200809L
+#include <arpa/inet.h>
+#include <stdio.h>
+#include <stdlib.h>
+#include <string.h>
+#include <sys/socket.h>
+#include <sys/time.h>
+#include <time.h>
+#include <unistd.h>
+
+enum { COMMUNITY_AT = 7, DATAGRAM_MAX = 65536 }; /* the community's first octet, in a datagram under 128 octets */
+
+static struct sockaddr_in loopback(int port)
+{
+    struct sockaddr_in address = {.sin_family = AF_INET, .sin_port = htons((unsigned short)port)};
+
+    address.sin_addr.s_addr = htonl(INADDR_LOOPBACK);
+    return address;
+}
+
+static int open_socket(int port)
+{
+    struct sockaddr_in address = loopback(port);
+    struct timeval wait = {.tv_sec = 1};
+    int made = socket(AF_INET, SOCK_DGRAM, 0);
+
+    if (made < 0 || bind(made, (struct sockaddr *)&address, sizeof address) != 0) {
+        perror("liar");
+        exit(2);
+    }
+    if (port == 0) {
+        setsockopt(made, SOL_SOCKET, SO_RCVTIMEO, &wait, sizeof wait);
+    }
+    return made;
+}
+
+static int front, back, other;
+
+static void send_back(int from, const unsigned char *answer, size_t count, const struct sockaddr_in *to)
+{
+    if (sendto(from, answer, count, 0, (const struct sockaddr *)to, sizeof *to) < 0) {
+        perror("liar");
+    }
+}
+
+/* Sends the answer to the n-th datagram as the mode has it. */
+static void answer(const char *mode, long n, long from, unsigned char *octets, size_t count,
+                   const struct sockaddr_in *to)
+{
+    if ((strcmp(mode, "silent") == 0 && n >= from) || (strcmp(mode, "deaf") == 0 && n == from)) {
+        return;
+    }
+    if (strcmp(mode, "late") == 0 && n == from) {
+        nanosleep(&(struct timespec){.tv_nsec = 400000000}, NULL);
+    } else if (strcmp(mode, "lie") == 0 && n >= from) {
+        octets[count - 1] ^= 1;
+    } else if (strcmp(mode, "repeat") == 0) {
+        send_back(front, octets, count, to);
+    } else if (strcmp(mode, "elsewhere") == 0) {
+        octets[count - 1] ^= 1;
+        send_back(other, octets, count, to);
+        octets[count - 1] ^= 1;
+    } else if (strcmp(mode, "foreign") == 0 && octets[1] < 128) {
+        octets[COMMUNITY_AT] ^= 1;
+        send_back(front, octets, count, to);
+        octets[COMMUNITY_AT] ^= 1;
+    }
+    send_back(front, octets, count, to);
+}
+
+int main(int argc, char **argv)
+{
+    static unsigned char octets[DATAGRAM_MAX];
+
+    if (argc != 5) {
+        fputs("usage: liar PORT AGENT_PORT MODE N\n", stderr);
+        return 2;
+    }
+    front = open_socket(atoi(argv[1]));
+    back = open_socket(0);
+    other = open_socket(0);
+    for (long n = 1;; n++) {
+        struct sockaddr_in asker, agent = loopback(atoi(argv[2]));
+        socklen_t length = sizeof asker;
+        ssize_t got = recvfrom(front, octets, sizeof octets, 0, (struct sockaddr *)&asker, &length);
+
+        send_back(back, octets, got < 0 ? 0 : (size_t)got, &agent);
+        got = recv(back, octets, sizeof octets, 0);
+        if (got > 0) {
+            answer(argv[3], n, atol(argv[4]), octets, (size_t)got, &asker);
+        }
+    }
+}
