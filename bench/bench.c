@@ -1,16 +1,19 @@
 /* Measures the library, the floor, an ordinary implementation and snmpd in one run, side by side.
  *
  *   bench [PORT PROCESS]      the UDP port and the process id of a running snmpd; without them it is left out
+ *   bench calls WORKLOAD      only the calls of one workload, by its number, for callgrind to count
  *
  * bench/run builds and starts this program; docs/PERFORMANCE.md tells how to read what it prints. */
 #define _DEFAULT_SOURCE
-#include <time.h>
-
 #include "agent.h"
+#include "calls.h"
+#include "figures.h"
 #include "stack.h"
+#include "tally.h"
+#include "walks.h"
 #include "workload.h"
 
-enum { ROUNDS = 21, BATCH_NANOSECONDS = 1000000, TRIPS = 200, LINE = 96 };
+enum { BATCH_NANOSECONDS = 1000000, TRIPS = 200, LINE = 96 };
 
 /* What the project asks of an answer to a get with one binding. */
 enum { MOST_MEMCMPS = 16, PARTS_OF_SNMPD = 3 };
@@ -76,30 +79,6 @@ static uint8_t rooms[IMPLEMENTATIONS][RB_MESSAGE_MAX];
 /* Errands by kind and number of bindings, then the library's own. */
 enum { SNMP_GET_1, SNMP_NEXT_1, SNMP_GET_16, SNMP_NEXT_16, SNMP_ERRANDS, LIBRARY_ERRAND = SNMP_ERRANDS, ERRANDS };
 static struct errand errands[ERRANDS];
-
-static uint64_t now(clockid_t clock)
-{
-    struct timespec time;
-
-    clock_gettime(clock, &time);
-    return (uint64_t)time.tv_sec * 1000000000u + (uint64_t)time.tv_nsec;
-}
-
-static int ascending(const void *a, const void *b)
-{
-    double x = *(const double *)a, y = *(const double *)b;
-
-    return (x > y) - (x < y);
-}
-
-static double median(const double *values, size_t count)
-{
-    double sorted[TRIPS > ROUNDS ? TRIPS : ROUNDS];
-
-    memcpy(sorted, values, count * sizeof *values);
-    qsort(sorted, count, sizeof *sorted, ascending);
-    return sorted[count / 2];
-}
 
 /* Processor time of one call, so that other programs on the machine do not count. */
 static double time_batch(const struct implementation *by, const struct job *job, const struct workload *workload,
@@ -326,10 +305,23 @@ static void print_rules(void)
            PARTS_OF_SNMPD * slowest <= snmpd ? "PASS" : "NOT ", slowest / snmpd, PARTS_OF_SNMPD);
 }
 
+/* The calls of one workload on 64 ports with full tables, and its title. */
+static int play_one(size_t number)
+{
+    REQUIRE(number < WORKLOADS, "no such workload");
+    make_bridge(&bridges[0], "64 ports, full", 64, true);
+    play_counted(&bridges[0], &bridges[0].workloads[number]);
+    printf("%s\n", bridges[0].workloads[number].title);
+    return 0;
+}
+
 int main(int argc, char **argv)
 {
     struct agent snmpd, library;
 
+    if (argc == 3 && strcmp(argv[1], "calls") == 0) {
+        return play_one(strtoul(argv[2], NULL, 10));
+    }
     make_bridge(&bridges[0], "4 ports, fresh", 4, false);
     make_bridge(&bridges[1], "4 ports, full", 4, true);
     make_bridge(&bridges[2], "64 ports, fresh", 64, false);
@@ -351,6 +343,8 @@ int main(int argc, char **argv)
     print_table();
     print_errands();
     print_depth();
+    print_walks(&bridges[BRIDGES - 1]);
     print_rules();
+    print_tallies();
     return 0;
 }

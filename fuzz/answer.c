@@ -24,7 +24,7 @@
 #include "reply.h"
 #include "start.h"
 
-enum { SPACE = 40960, NUMBERS = 9, STATUSES = 19 };
+enum { SPACE = 40960, NUMBERS = 9, STATUSES = 19, STATUS_FIELD_AT = 11 };
 
 uint8_t outcomes[OUTCOMES] __attribute__((section("__libfuzzer_extra_counters"), used));
 
@@ -102,6 +102,31 @@ static bool all_are(const uint8_t *octets, size_t length, uint8_t fill)
     return true;
 }
 
+/* Refusals 4 to 8 tell where the request broke, 4 also its end; 7 is about field 01 or 03, 8 about a binding's tag. */
+static void check_offset(const struct octets *request, rb_result result)
+{
+    size_t offset = result.offset;
+    bool inside = offset < request->count;
+
+    switch (result.number) {
+    case RB_FIELD_CUT:
+        require(offset <= request->count, "an offset past the request's end");
+        break;
+    case RB_TAG_NOT_ALLOWED:
+    case RB_LENGTH_WRONG:
+        require(inside, "an offset of no octet of the request");
+        break;
+    case RB_HEAD_WRONG:
+        require(offset == 0 || offset == STATUS_FIELD_AT, "an offset of neither field 01 nor field 03");
+        break;
+    case RB_TOO_MANY_BINDINGS:
+        require(inside && request->at[offset] == RB_TAG_BINDING, "an offset of no binding's tag");
+        break;
+    default:
+        require(offset == 0, "an offset with a return that is not 4 to 8");
+    }
+}
+
 /* Calls with octets at the end or at the start of their spaces, the room filled; checks what needs no other call. */
 static void play(const struct call *call, bool at_end, uint8_t fill, struct outcome *outcome)
 {
@@ -118,8 +143,7 @@ static void play(const struct call *call, bool at_end, uint8_t fill, struct outc
     require(result.number < NUMBERS, "a number that is not 0 to 8");
     require(result.number == RB_ANSWERED || result.count == 0, "a refusal with a count");
     require(result.count <= call->room_len, "a count over the room's length");
-    require(result.offset == 0 || (result.number >= RB_FIELD_CUT && result.offset <= call->request.count),
-            "an offset that no refusal of the form has");
+    check_offset(&call->request, result);
     require(all_are(room + result.count, call->room_len - result.count, fill), "octets behind the answer were written");
     outcome->result = result;
     memcpy(outcome->block, block, call->block_len);

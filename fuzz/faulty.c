@@ -6,13 +6,18 @@
  *   3 the block is not legal after a set           7 an octet behind the request is read
  *   4 a get writes the block                       8 the answer depends on what the room held
  *   9 a fault names no binding                    10 the number is none of 0 to 8
- *  11 a value is of another type than its object   12 an accepted set is one that must not be */
+ *  11 a value is of another type than its object   12 an accepted set is one that must not be
+ *  13 an offset is past the request's end          14 a return that is not 4 to 8 has an offset
+ *  15 a 17th binding has the offset of its contents */
 #include <stdlib.h>
 
 #include "message.h"
 #include "refbridge.h"
 
-enum { AT_DELETES = 4, AT_FREE = 22, CONTENT_OCTETS = 7 }; /* of a number at the end of an answer, with its header */
+enum { AT_DELETES = 4, AT_FREE = 22, HEADER_OCTETS = 3, NUMBER_OCTETS = 4 };
+
+/* Of a number at the end of an answer, with its header. */
+enum { CONTENT_OCTETS = HEADER_OCTETS + NUMBER_OCTETS };
 
 rb_result __real_rb_answer(uint8_t *block, size_t block_len, const uint8_t *request, size_t request_len, uint8_t *room,
                            size_t room_len);
@@ -67,6 +72,23 @@ static void break_answer(uint8_t *block, uint8_t *request, size_t request_len, u
     }
 }
 
+static void break_offset(size_t request_len, rb_result *result)
+{
+    bool broken = result->number >= RB_FIELD_CUT;
+
+    switch (fault()) {
+    case 13:
+        result->offset = broken ? (uint32_t)request_len + 1 : 0;
+        break;
+    case 14:
+        result->offset = broken ? result->offset : 1;
+        break;
+    case 15:
+        result->offset += result->number == RB_TOO_MANY_BINDINGS ? HEADER_OCTETS : 0;
+        break;
+    }
+}
+
 rb_result __wrap_rb_answer(uint8_t *block, size_t block_len, const uint8_t *request, size_t request_len, uint8_t *room,
                            size_t room_len)
 {
@@ -83,5 +105,6 @@ rb_result __wrap_rb_answer(uint8_t *block, size_t block_len, const uint8_t *requ
     } else if (fault() == 6 && result.number > RB_BLOCK_NOT_LEGAL) {
         block[AT_DELETES] ^= 1;
     }
+    break_offset(request_len, &result);
     return result;
 }

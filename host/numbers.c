@@ -25,6 +25,8 @@ static const char *const refusals[] = {
     [RB_DATAGRAM_LONG] = "datagram too long",
     [RB_CONSOLE_WRONG] = "frame wrong",
     [RB_CONSOLE_LONG] = "frame too long",
+    [RB_NOT_ASCENDING] = "walk not strictly ascending",
+    [RB_LIST_SHORT] = "list longer than its room",
 };
 
 static const struct {

@@ -255,8 +255,7 @@ static bool has_port(const struct value *value, size_t port)
     return at < value->count && (value->octets[at] & 0x80u >> (port - 1) % 8) != 0;
 }
 
-/* Ports one after the other are shown as LOW-HIGH. */
-static void print_ports(FILE *out, const struct value *value)
+void value_print_ports(FILE *out, const struct value *value)
 {
     const char *before = "";
 
@@ -284,7 +283,7 @@ static void print_ports(FILE *out, const struct value *value)
 static void print_string(FILE *out, const struct value *value, const struct object *object, uint32_t ports)
 {
     if (object != NULL && object->show == SHOW_PORTS && is_port_set(value, ports)) {
-        print_ports(out, value);
+        value_print_ports(out, value);
     } else if (object != NULL && object->show == SHOW_TEXT && is_text(value)) {
         fprintf(out, "string:\"%.*s\"", (int)value->count, (const char *)value->octets);
     } else {

@@ -32,4 +32,7 @@ bool value_is(const struct value *got, const struct value *expected, uint32_t po
 /* Prints a content in the form that is read; the object, if known, says how a string is shown. */
 void value_print(FILE *out, const struct value *value, const struct object *object, uint32_t ports);
 
+/* Prints a string as a list of ports; ports one after the other are shown as LOW-HIGH. */
+void value_print_ports(FILE *out, const struct value *value);
+
 #endif

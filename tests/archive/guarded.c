@@ -59,6 +59,8 @@ static void call(void)
     REQUIRE(got.number <= 8, "call %u: number %u", calls, got.number);
     numbers[got.number]++;
     REQUIRE(kept(&request, 0), "call %u: the request was written", calls);
+    REQUIRE(got.offset == 0 || (got.number >= RB_FIELD_CUT && got.offset <= request.length), "call %u: number %u has the offset %u", calls, got.number,
+            got.offset);
     if (got.number != 0) {
         REQUIRE(got.count == 0 && kept(&block, 0) && kept(&room, 0), "call %u: refusal %u has a count or wrote an octet", calls, got.number);
         return;
@@ -173,7 +175,7 @@ static void play_setup(void)
         lend(&request, octets, address_len, (int)chance(2));
         rb_result got = rb_setup(block.octets, block.length, ports, request.octets, request.length);
         int takes = block_len == RB_BLOCK_SIZE && address_len == RB_ADDRESS_SIZE && ports >= 1 && ports <= 64;
-        REQUIRE(got.number == (takes ? RB_ANSWERED : RB_SETUP_REFUSED) && got.count == 0, "set-up gave %u", got.number);
+        REQUIRE(got.number == (takes ? RB_ANSWERED : RB_SETUP_REFUSED) && got.count == 0 && got.offset == 0, "set-up gave %u", got.number);
         REQUIRE(takes || kept(&block, 0), "a refused set-up wrote an octet");
         numbers[got.number]++;
     }

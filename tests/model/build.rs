@@ -13,6 +13,11 @@ fn main() {
         println!("cargo:rerun-if-changed={folder}/librefbridge.a");
     }
     println!("cargo:rerun-if-changed=build.rs");
+    if env::var("CARGO_FEATURE_WALK_MUTANTS").is_ok() {
+        println!("cargo:rerun-if-changed=walk_mutants");
+        println!("cargo:rerun-if-changed=src/walks");
+        make_walk_mutants(Path::new(&env::var("OUT_DIR").unwrap()));
+    }
     if env::var("CARGO_FEATURE_MUTANTS").is_ok() {
         println!("cargo:rerun-if-changed=mutants");
         println!("cargo:rerun-if-changed=src/model");
@@ -48,19 +53,17 @@ fn chosen(at: usize) -> bool {
 }
 
 fn make_mutants(out: &Path) {
-    let mut edits: Vec<PathBuf> = fs::read_dir("mutants").unwrap().map(|entry| entry.unwrap().path()).collect();
-    edits.sort();
     let mut modules = String::new();
     let mut table = String::from("pub const MUTANTS: &[(&str, Library)] = &[\n");
-    for (at, path) in edits.iter().enumerate() {
+    for (at, path) in edits_of("mutants").iter().enumerate() {
         let edit = read_edit(path);
-        stands_once(&edit, path);
+        stands_once(&edit, "src/model", path);
         if !chosen(at) {
             continue;
         }
         let module = format!("mutant_{}", at + 1);
         let folder = out.join(&module);
-        copy_changed(&edit, &folder);
+        copy_changed(&edit, "src/model", &folder);
         let root = folder.join("mod.rs");
         modules += &format!("#[allow(dead_code, unused)]\n#[path = {root:?}]\nmod {module};\n");
         let calls =
@@ -72,15 +75,45 @@ fn make_mutants(out: &Path) {
 }
 
 /// An edit that no longer fits the model stops the build, whether it is chosen or not.
-fn stands_once(edit: &Edit, path: &Path) {
-    let text = fs::read_to_string(Path::new("src/model").join(&edit.file)).unwrap();
+fn stands_once(edit: &Edit, source: &str, path: &Path) {
+    let text = fs::read_to_string(Path::new(source).join(&edit.file)).unwrap();
     let found = text.matches(&edit.old).count();
     assert_eq!(found, 1, "{}: its old text stands {found} times in {}", path.display(), edit.file);
 }
 
-fn copy_changed(edit: &Edit, folder: &Path) {
+/// The model of a comparison of two walks, changed: its reading and its comparing.
+fn make_walk_mutants(out: &Path) {
+    let fields = ["number", "side", "offset", "tail_at", "tail_len", "reference_only", "switch_only", "differing"]
+        .map(|field| format!("{field}: w.{field}"));
+    let mut modules = String::new();
+    let mut table = String::from("pub const MUTANTS: &[(&str, Compare)] = &[\n");
+    for (at, path) in edits_of("walk_mutants").iter().enumerate() {
+        let edit = read_edit(path);
+        let module = format!("walk_mutant_{}", at + 1);
+        let folder = out.join(&module);
+        stands_once(&edit, "src/walks", path);
+        copy_changed(&edit, "src/walks", &folder);
+        let root = folder.join("mod.rs");
+        fs::write(&root, "pub mod compare;\npub mod read;\n").unwrap();
+        modules += &format!("#[allow(dead_code, unused)]\n#[path = {root:?}]\nmod {module};\n");
+        let call = format!(
+            "|a, b, list| {{ let w = {module}::compare::compare(a, b, list); Walks {{ {} }} }}",
+            fields.join(", ")
+        );
+        table += &format!("    ({:?}, {call}),\n", edit.what);
+    }
+    fs::write(out.join("walk_mutants.rs"), format!("{modules}{table}];\n")).unwrap();
+}
+
+fn edits_of(folder: &str) -> Vec<PathBuf> {
+    let mut edits: Vec<PathBuf> = fs::read_dir(folder).unwrap().map(|entry| entry.unwrap().path()).collect();
+    edits.sort();
+    edits
+}
+
+fn copy_changed(edit: &Edit, source: &str, folder: &Path) {
     fs::create_dir_all(folder).unwrap();
-    for entry in fs::read_dir("src/model").unwrap() {
+    for entry in fs::read_dir(source).unwrap() {
         let source = entry.unwrap().path();
         let name = source.file_name().unwrap().to_str().unwrap();
         let mut text = fs::read_to_string(&source).unwrap();

@@ -8,7 +8,7 @@ use native.Mathlib.Numerals.{add-one}
 use native.Mathlib.Omega.{arith}
 use lib.ListN.{length, take, drop, getD, set, length-append, length-drop, take-append-drop, List·getD-append, replicate-append-replicate, length-replicate}
 use lib.Seq.{take-set-le, drop-cons, append-snoc, length-take-le, take-at, drop-at, set-at, set-split, getD-append-add, take-add, drop-drop, sets, sets-eq, set-comm, getD-at}
-use borrow.Author.Tests.{eqb-true, eq-eqb, ne-eqb}
+use borrow.Author.Tests.{eqb-true, eq-eqb, ne-eqb, eqb-false}
 use lib.Bits.{bitOr, or-zero-l, or-add-and, and-le-r}
 use lib.Dec.{eqb, eqb·suc-zero}
 use Rattle.octets.specs.Parts.{patch, zeros, zeroRun, same}
@@ -172,6 +172,22 @@ pub same-refl : (xs : List ℕ) → same xs xs ≡ true
 unfolding same
 same-refl [] = refl
 same-refl (x ∷ xs) = rw (eq-eqb x x refl) (same-refl xs)
+
+-- a test for equal numbers is the same either way round
+pub eqb-swap : (a b : ℕ) → eqb a b ≡ eqb b a
+eqb-swap a b = go (eqb a b) refl
+  where
+    go : (t : Bool) → eqb a b ≡ t → t ≡ eqb b a
+    go true e = sym (eq-eqb b a (sym (eqb-true a b e)))
+    go false e = sym (ne-eqb b a (λ f. eqb-false a b e (sym f)))
+
+-- so is a test for the same octets
+pub same-swap : (us vs : List ℕ) → same us vs ≡ same vs us
+unfolding same
+same-swap [] [] = refl
+same-swap [] (v ∷ vs) = refl
+same-swap (u ∷ us) [] = refl
+same-swap (u ∷ us) (v ∷ vs) = rw (eqb-swap u v, same-swap us vs)
 
 pub same-eq : (xs ys : List ℕ) → same xs ys ≡ true → xs ≡ ys
 unfolding same

@@ -1,7 +1,7 @@
 -- Laws of `specs/Ports.antt`, over the width w: a set is its members, and what the word operations make of them. Assumes nothing.
 use mathlib.Core.Logic.{by-cases}
 use mathlib.Core.Path.{_≡_, refl, sym, ap, ap₂, _∙_}
-use mathlib.Core.List.{List, [], _∷_}
+use mathlib.Core.List.{List, [], _∷_, _++_}
 use mathlib.Core.Bool.{Bool, true, false, cond, _&&_, and-false, Bool·beq}
 use Prim.Native.Nat.{ℕ, zero, suc, _+_, _-_, _*_, _/_, _%_, _^_, _≤_, _<_, min}
 use native.Mathlib.Nat.{zero-add, one-le-pow, div-eq-of-lt, div-eq-of-lt-le, pos-of-ne-zero, mul-suc, zero-min, zero-mod, zero-div, mod-one, mul-mod-left, mul-add-mod-self-right, div-one, div-lt-iff-lt-mul, div-add-mod', div-div-eq-div-mul, mul-comm, mul-assoc, mul-one, add-zero, add-suc, pow-suc, sub-self}
@@ -12,14 +12,14 @@ use lib.Arith.{lt-one}
 use lib.Bits.{bitAnd, bitXor, differ, and-step, xor-step, and-shr, xor-shr, and-zero-r, and-comm, and-lt, and-le-l, and-le-r, xor-add-and, xor-lt}
 use lib.Count.{ones, ones-step, leadingZeros, leading-unique}
 use lib.Dec.{eqb, leb}
-use lib.ListN.{length, take, drop, getD, length-take, List·getD-eq-default}
+use lib.ListN.{length, take, drop, getD, length-take, List·getD-eq-default, List·getD-append}
 use lib.Pow.{mod-pow-add, ones-lt, pow-pos, pow-add, pow-sub-lt, shl-shr, shr-shr, ones-split, high, high-ones, field, mod-mod-pow}
-use lib.Seq.{getD-take, getD-drop, take-append-le, take-all}
+use lib.Seq.{getD-take, getD-drop, take-append-le, take-all, getD-append-add}
 use borrow.Author.Tests.{eqb-true, eq-eqb, le-leb, lt-leb}
 use Rattle.octets.specs.Numbers.{beAt, beOctets}
-use Rattle.octets.specs.Parts.{part}
+use Rattle.octets.specs.Parts.{part, zeros}
 use Rattle.octets.specs.Ports.{member, portsTo, onlyTo, disjoint, membersTo, members, differsFrom, firstDiffering, setOf, portOctets}
-use Rattle.octets.proofs.NumberLaws.{Octets, beAt-more, length-beOctets, beAt-beOctets, beAt-lt}
+use Rattle.octets.proofs.NumberLaws.{Octets, beAt-more, length-beOctets, beAt-beOctets, beAt-lt, beAt-same}
 
 -- a port of 1 to w is in the set where its digit is 1
 pub member-in : (w s p : ℕ) → 1 ≤ p → p ≤ w → member w s p ≡ eqb (s / 2 ^ (w - p) % 2) 1
@@ -328,3 +328,49 @@ octets-back w n v h l e =
 pub set-octets : (n s : ℕ) → s < 2 ^ 64 → n ≤ 64 → onlyTo 64 n s ≡ true → setOf (portOctets n s) ≡ s
 unfolding setOf portOctets
 set-octets n s h l e = octets-back 8 n s l h e
+
+-- a set of w ports has at most w
+pub members-le : (w s : ℕ) → members w s ≤ w
+unfolding membersTo
+members-le w s = go w
+  where
+    one-at-most : (t : Bool) → cond t 1 0 ≤ 1
+    one-at-most true = omega arith
+    one-at-most false = omega arith
+
+    go : (p : ℕ) → membersTo w s p ≤ p
+    go zero = omega arith
+    go (suc p) = omega (arith, go p, one-at-most (member w s (suc p)))
+
+differs-lt : (w a b p n : ℕ) → 1 ≤ p → differsFrom w a b p n < p + n
+unfolding differsFrom
+differs-lt w a b p zero h = omega arith
+differs-lt w a b p (suc n) h = go (Bool·beq (member w a p) (member w b p)) (differs-lt w a b (suc p) n (omega arith))
+  where
+    go : (t : Bool) → differsFrom w a b (suc p) n < suc p + n → cond t (differsFrom w a b (suc p) n) p < p + suc n
+    go true i = omega arith
+    go false i = omega arith
+
+-- the first port that differs is one of the w
+pub first-le : (w a b : ℕ) → firstDiffering w a b ≤ w
+first-le w a b = omega (arith, differs-lt w a b 1 w (omega arith))
+
+zeros-at : (n i : ℕ) → getD (zeros n) i 0 ≡ 0
+unfolding zeros
+zeros-at zero i = refl
+zeros-at (suc n) zero = refl
+zeros-at (suc n) (suc i) = zeros-at n i
+
+-- zeros behind the octets of a set change nothing
+pub set-zeros : (us : List ℕ) (n : ℕ) → setOf (us ++ zeros n) ≡ setOf us
+unfolding setOf
+set-zeros us n =
+    beAt-same (us ++ zeros n) us 0 0 8 (λ i l.
+    by-cases (decLt (0 + i) (length us))
+    (λ h. List·getD-append us (zeros n) 0 (0 + i) h)
+    (λ h.
+    let e : 0 + i ≡ length us + (0 + i - length us) = omega arith in
+    ap (λ (k : ℕ). getD (us ++ zeros n) k 0) e
+    ∙ getD-append-add us (zeros n) (0 + i - length us) 0
+    ∙ zeros-at n (0 + i - length us)
+    ∙ sym (List·getD-eq-default us 0 {n = 0 + i} (omega arith))))

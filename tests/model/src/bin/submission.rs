@@ -163,6 +163,7 @@ impl Writer {
         match (returned.0, &request) {
             (0, Some(request)) => self.expect_answer(request, room[14], room[15]),
             (0, None) => self.expect(format!("octets {}", hex(&room[..returned.1 as usize]))),
+            (refusal @ 4..=8, _) => self.expect(format!("refused {refusal} at {}", returned.2)),
             (refusal, _) => self.expect(format!("refused {refusal}")),
         }
         if block_len == BLOCK {

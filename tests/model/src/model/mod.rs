@@ -6,6 +6,7 @@
 pub mod answer;
 pub mod bridge;
 pub mod calls;
+pub mod console;
 pub mod image;
 pub mod message;
 pub mod names;

@@ -1,0 +1,13 @@
+pub mod RunLaws
+pub mod HeaderLaws
+pub mod StateLaws
+pub mod LeftLaws
+pub mod CallLaws
+pub mod SoundLaws
+pub mod StreamLaws
+pub mod EndLaws
+pub mod ReachLaws
+pub mod FramedLaws
+pub mod BatchLaws
+pub mod Theorems
+pub mod Vectors

@@ -1,0 +1,201 @@
+-- `names::table::row` meets its contract: each arm writes the object type at its place of `specs/Table.antt`. Assumes nothing.
+use mathlib.Core.Path.{_≡_}
+use Prim.Native.Nat.{ℕ, zero, suc, _≤_}
+use native.Mathlib.Omega.{arith}
+use Rattle.names.specs.Codes.{decodedRow}
+use Rattle.names.specs.Table.{objects}
+use Rattle.names.proofs.table.row.Statement.{statement}
+use Rattle.names.proofs.table.row.Tie as tie
+
+returns : tie.Need-returns
+unfolding objects decodedRow
+returns c = rw (c .match .keys1)
+
+returns-2 : tie.Need-returns-2
+unfolding objects decodedRow
+returns-2 c = rw (c .match .keys2)
+
+returns-3 : tie.Need-returns-3
+unfolding objects decodedRow
+returns-3 c = rw (c .match .keys3)
+
+returns-4 : tie.Need-returns-4
+unfolding objects decodedRow
+returns-4 c = rw (c .match .keys4)
+
+returns-5 : tie.Need-returns-5
+unfolding objects decodedRow
+returns-5 c = rw (c .match .keys5)
+
+returns-6 : tie.Need-returns-6
+unfolding objects decodedRow
+returns-6 c = rw (c .match .keys6)
+
+returns-7 : tie.Need-returns-7
+unfolding objects decodedRow
+returns-7 c = rw (c .match .keys7)
+
+returns-8 : tie.Need-returns-8
+unfolding objects decodedRow
+returns-8 c = rw (c .match .keys8)
+
+returns-9 : tie.Need-returns-9
+unfolding objects decodedRow
+returns-9 c = rw (c .match .keys9)
+
+returns-10 : tie.Need-returns-10
+unfolding objects decodedRow
+returns-10 c = rw (c .match .keys10)
+
+returns-11 : tie.Need-returns-11
+unfolding objects decodedRow
+returns-11 c = rw (c .match .keys11)
+
+returns-12 : tie.Need-returns-12
+unfolding objects decodedRow
+returns-12 c = rw (c .match .keys12)
+
+returns-13 : tie.Need-returns-13
+unfolding objects decodedRow
+returns-13 c = rw (c .match .keys13)
+
+returns-14 : tie.Need-returns-14
+unfolding objects decodedRow
+returns-14 c = rw (c .match .keys14)
+
+returns-15 : tie.Need-returns-15
+unfolding objects decodedRow
+returns-15 c = rw (c .match .keys15)
+
+returns-16 : tie.Need-returns-16
+unfolding objects decodedRow
+returns-16 c = rw (c .match .keys16)
+
+returns-17 : tie.Need-returns-17
+unfolding objects decodedRow
+returns-17 c = rw (c .match .keys17)
+
+returns-18 : tie.Need-returns-18
+unfolding objects decodedRow
+returns-18 c = rw (c .match .keys18)
+
+returns-19 : tie.Need-returns-19
+unfolding objects decodedRow
+returns-19 c = rw (c .match .keys19)
+
+returns-20 : tie.Need-returns-20
+unfolding objects decodedRow
+returns-20 c = rw (c .match .keys20)
+
+returns-21 : tie.Need-returns-21
+unfolding objects decodedRow
+returns-21 c = rw (c .match .keys21)
+
+returns-22 : tie.Need-returns-22
+unfolding objects decodedRow
+returns-22 c = rw (c .match .keys22)
+
+returns-23 : tie.Need-returns-23
+unfolding objects decodedRow
+returns-23 c = rw (c .match .keys23)
+
+returns-24 : tie.Need-returns-24
+unfolding objects decodedRow
+returns-24 c = rw (c .match .keys24)
+
+returns-25 : tie.Need-returns-25
+unfolding objects decodedRow
+returns-25 c = rw (c .match .keys25)
+
+returns-26 : tie.Need-returns-26
+unfolding objects decodedRow
+returns-26 c = rw (c .match .keys26)
+
+returns-27 : tie.Need-returns-27
+unfolding objects decodedRow
+returns-27 c = rw (c .match .keys27)
+
+returns-28 : tie.Need-returns-28
+unfolding objects decodedRow
+returns-28 c = rw (c .match .keys28)
+
+returns-29 : tie.Need-returns-29
+unfolding objects decodedRow
+returns-29 c = rw (c .match .keys29)
+
+returns-30 : tie.Need-returns-30
+unfolding objects decodedRow
+returns-30 c = rw (c .match .keys30)
+
+returns-31 : tie.Need-returns-31
+unfolding objects decodedRow
+returns-31 c = rw (c .match .keys31)
+
+returns-32 : tie.Need-returns-32
+unfolding objects decodedRow
+returns-32 c = rw (c .match .keys32)
+
+returns-33 : tie.Need-returns-33
+unfolding objects decodedRow
+returns-33 c = rw (c .match .keys33)
+
+returns-34 : tie.Need-returns-34
+unfolding objects decodedRow
+returns-34 c = rw (c .match .keys34)
+
+-- i is none of the k places from 0 on
+abbrev NoneOf : (X : Type 0) → ℕ → ℕ → Type 0
+NoneOf X i zero = X
+NoneOf X i (suc k) = NoneOf X i k × (i ≡ k → ⊥)
+
+past : (X : Type 0) (i k : ℕ) → NoneOf X i k → k ≤ i
+past X i zero h = omega arith
+past X i (suc k) h = omega (arith, past X i k (h .0), h .1)
+
+-- past 34 arms the last place is left
+last : (c : tie.At-match-rest) → c .before .args .i ≡ 34
+last c = omega (arith, past _ (c .before .args .i) 34 (c .match .rest))
+
+returns-35 : tie.Need-returns-35
+unfolding objects decodedRow
+returns-35 c = rw (last c)
+
+pub row-spec : {M : Type 1} → statement M
+row-spec =
+    tie.close
+    (tie.spec
+    returns
+    returns-2
+    returns-3
+    returns-4
+    returns-5
+    returns-6
+    returns-7
+    returns-8
+    returns-9
+    returns-10
+    returns-11
+    returns-12
+    returns-13
+    returns-14
+    returns-15
+    returns-16
+    returns-17
+    returns-18
+    returns-19
+    returns-20
+    returns-21
+    returns-22
+    returns-23
+    returns-24
+    returns-25
+    returns-26
+    returns-27
+    returns-28
+    returns-29
+    returns-30
+    returns-31
+    returns-32
+    returns-33
+    returns-34
+    returns-35)

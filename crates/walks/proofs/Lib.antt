@@ -1,0 +1,11 @@
+pub mod ContrastLaws
+pub mod WalkLaws
+pub mod LeftLaws
+pub mod MergeLaws
+pub mod TurnLaws
+pub mod CodeLaws
+pub mod PassLaws
+pub mod CompareLaws
+pub mod InductLaws
+pub mod Theorems
+pub mod Vectors

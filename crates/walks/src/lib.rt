@@ -1,0 +1,5 @@
+// Comparing the reference's walk with a device's.
+pub mod compare;
+pub mod contrast;
+pub mod turn;
+pub mod walk;
