@@ -2,11 +2,13 @@
  *
  *   liar PORT AGENT_PORT MODE N
  *
- * From the N-th datagram on, counted from 1: `lie` changes the last octet of each answer, `silent` answers nothing. The
- * N-th alone: `deaf` drops its answer, `late` sends it 400 ms later. Each one: `repeat` sends the answer twice,
- * `elsewhere` first sends another one from another port, `foreign` first one of another community. */
+ * Sets are counted from 1, since they are never sent twice. From the N-th set on: `lie` changes the last octet of each
+ * answer, `silent` answers nothing. `deaf` drops the answer to the N-th set, `forgets` the answer to the first get
+ * after it, and `late` sends that one 1500 ms later. Each one: `repeat` sends the answer twice, `elsewhere` first sends
+ * another one from another port, `foreign` first one of another community. */
 #define _POSIX_C_SOURCE 200809L
 #include <arpa/inet.h>
+#include <stdbool.h>
 #include <stdio.h>
 #include <stdlib.h>
 #include <string.h>
@@ -15,7 +17,8 @@
 #include <time.h>
 #include <unistd.h>
 
-enum { COMMUNITY_AT = 7, DATAGRAM_MAX = 65536 }; /* the community's first octet, in a datagram under 128 octets */
+/* Where the community and the PDU start in a datagram under 128 octets whose community is public; the tag of a set. */
+enum { COMMUNITY_AT = 7, PDU_AT = 13, PDU_SET = 0xA3, DATAGRAM_MAX = 65536 };
 
 static struct sockaddr_in loopback(int port)
 {
@@ -50,15 +53,19 @@ static void send_back(int from, const unsigned char *answer, size_t count, const
     }
 }
 
-/* Sends the answer to the n-th datagram as the mode has it. */
-static void answer(const char *mode, long n, long from, unsigned char *octets, size_t count,
+/* Sends an answer as the mode has it: `n` sets came so far, this is one of them or not, and the gets since are counted.
+ */
+static void answer(const char *mode, long n, long from, bool set, long gets, unsigned char *octets, size_t count,
                    const struct sockaddr_in *to)
 {
-    if ((strcmp(mode, "silent") == 0 && n >= from) || (strcmp(mode, "deaf") == 0 && n == from)) {
+    bool first_get = n == from && !set && gets == 1;
+
+    if ((strcmp(mode, "silent") == 0 && n >= from) || (strcmp(mode, "deaf") == 0 && n == from && set) ||
+        (strcmp(mode, "forgets") == 0 && first_get)) {
         return;
     }
-    if (strcmp(mode, "late") == 0 && n == from) {
-        nanosleep(&(struct timespec){.tv_nsec = 400000000}, NULL);
+    if (strcmp(mode, "late") == 0 && first_get) {
+        nanosleep(&(struct timespec){.tv_sec = 1, .tv_nsec = 500000000}, NULL);
     } else if (strcmp(mode, "lie") == 0 && n >= from) {
         octets[count - 1] ^= 1;
     } else if (strcmp(mode, "repeat") == 0) {
@@ -86,15 +93,18 @@ int main(int argc, char **argv)
     front = open_socket(atoi(argv[1]));
     back = open_socket(0);
     other = open_socket(0);
-    for (long n = 1;; n++) {
+    for (long n = 0, gets = 0;;) {
         struct sockaddr_in asker, agent = loopback(atoi(argv[2]));
         socklen_t length = sizeof asker;
         ssize_t got = recvfrom(front, octets, sizeof octets, 0, (struct sockaddr *)&asker, &length);
+        bool set = got > PDU_AT && octets[PDU_AT] == PDU_SET;
 
+        n += set ? 1 : 0;
+        gets = set ? 0 : gets + 1;
         send_back(back, octets, got < 0 ? 0 : (size_t)got, &agent);
         got = recv(back, octets, sizeof octets, 0);
         if (got > 0) {
-            answer(argv[3], n, atol(argv[4]), octets, (size_t)got, &asker);
+            answer(argv[3], n, atol(argv[4]), set, gets, octets, (size_t)got, &asker);
         }
     }
 }
