@@ -1,20 +1,19 @@
 -- What reading a datagram hands over is a message that can be read (`HandsOverReadable` of specs/Theorems). Assumes nothing.
-use Prim.Native.Nat.{ℕ, _+_, _*_, _%_, _^_, _≤_, _<_}
-use mathlib.Core.Path.{_≡_, refl, sym, ap, subst, _∙_}
-use mathlib.Core.Bool.{Bool, true, false, cond, _&&_, _||_}
+use Prim.Native.Nat.{ℕ, _≤_, _<_}
+use mathlib.Core.Path.{_≡_, refl, ap, _∙_}
+use mathlib.Core.Bool.{Bool, true, false, cond, _&&_}
 use mathlib.Core.List.{List, [], _∷_, map}
 use native.Mathlib.Omega.{arith}
-use borrow.Author.Tests.{leb-true, eqb-true, eq-eqb, ne-eqb}
+use borrow.Author.Tests.{leb-true, eq-eqb, ne-eqb}
 use lib.Dec.{leb, ltb, eqb}
-use lib.ListN.{length, getD, take, drop, length-drop}
-use Rattle.octets.specs.Parts.{part, patch}
-use Rattle.octets.proofs.NumberLaws.{Octets}
+use lib.ListN.{length, getD, take, length-drop}
+use Rattle.octets.specs.Parts.{part}
 use Rattle.names.proofs.SubIdLaws.{length-nameOctets}
 use Rattle.message.specs.declared.request.Binding.{Binding}
 use Rattle.message.specs.Form.{tagAllowed, contentLength}
 use Rattle.message.specs.Request as request
 use Rattle.message.specs.Request.{contentPlace}
-use Rattle.message.specs.Answer.{Bound, messageOctets, mostOctets}
+use Rattle.message.specs.Answer.{messageOctets, mostOctets}
 use Rattle.message.specs.Theorems.{Carried, AllCarried}
 use Rattle.message.proofs.FormLaws.{cond-cases}
 use Rattle.message.proofs.ReadBack.{any-reads-back}

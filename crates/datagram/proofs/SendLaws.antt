@@ -6,13 +6,13 @@ use mathlib.Core.List.{List, [], _∷_, _++_, map, append-assoc}
 use native.Mathlib.Omega.{arith}
 use native.Mathlib.Numerals.{add-one}
 use borrow.Author.Tests.{leb-true, leb-false, eqb-true, le-leb, lt-leb, lt-ltb, le-ltb}
-use lib.Dec.{leb, ltb, eqb}
+use lib.Dec.{leb, eqb}
 use lib.ListN.{length, getD, take, drop, replicate, length-append, length-replicate, length-take, drop-of-length-le, List·getD-append}
-use lib.Seq.{drop-cons, drop-at, take-at, getD-take, length-take-le, take-all}
+use lib.Seq.{drop-cons, drop-at, take-at, getD-take, length-take-le}
 use Rattle.octets.specs.Numbers.{beOctets}
 use Rattle.octets.specs.Parts.{part, patch}
 use Rattle.octets.proofs.NumberLaws.{length-beOctets}
-use Rattle.octets.proofs.PartLaws.{patch-none, patch-patch, length-patch}
+use Rattle.octets.proofs.PartLaws.{patch-none, patch-patch}
 use Rattle.message.specs.declared.form.Field.{Field}
 use Rattle.message.specs.declared.form.Field.the-variants.{Cut, Whole}
 use Rattle.message.specs.declared.form.Place.{Place}
@@ -23,21 +23,17 @@ use Rattle.message.specs.declared.request.Head.{Head}
 use Rattle.message.specs.declared.request.Binding.{Binding}
 use Rattle.message.specs.declared.request.Step.{Step}
 use Rattle.message.specs.Form.{fieldAt, tagAllowed, contentLength, lengthRight, refusal, judged, checkedAt}
-use Rattle.message.specs.Request.{checkedThen, statusAllowed, statusOf, idOf, contentPlace, contentIn, bindingTagAt, notBinding, seventeenth, Bindings, ended, all, prepend, stepThen, noBinding, withBindings, headThen}
+use Rattle.message.specs.Request.{checkedThen, statusAllowed, statusOf, idOf, contentPlace, contentIn, bindingTagAt, notBinding, seventeenth, Bindings, ended, all, prepend, stepThen, noBinding, withBindings}
 use Rattle.message.specs.Answer.{Bound, mostOctets}
 use Rattle.message.specs.Theorems.{boundAt}
 use Rattle.message.proofs.FormLaws.{InPlace, told, cond-cases, clash}
 use Rattle.datagram.specs.declared.response.Answers.{Answers}
-use Rattle.datagram.specs.declared.sending.Written.{Written}
-use Rattle.datagram.specs.Writing.{lengthForm, headerForm, berOctets, shortened, nameBer, berTag, contentBer, bindingBer, bindingsBer, responseBer, responseFields, responseFront, datagramFields, datagramFront, datagramOctets, nameWritten, responseIn, responseAt, responsesFrom, responseHead, readResponse, answersOf, Writable, Ready, Put, Sent, notSent, sent, sentBy, sentAs, toDatagram}
+use Rattle.datagram.specs.Writing.{lengthForm, headerForm, berOctets, shortened, nameBer, berTag, contentBer, bindingBer, bindingsBer, responseBer, responseFields, responseFront, datagramFields, datagramFront, datagramOctets, nameWritten, responseIn, responseAt, responsesFrom, responseHead, readResponse, answersOf, Writable, Ready, Put, notSent, sent, sentBy, toDatagram}
 use Rattle.datagram.proofs.BerLaws.{part-length}
-use Rattle.datagram.proofs.WriteLaws.{field-before, two-before, put-length, header-most, name-most, content-most, shortened-most, binding-is}
+use Rattle.datagram.proofs.WriteLaws.{field-before, two-before, header-most, name-most, content-most, shortened-most, binding-is}
 use Rattle.datagram.proofs.PlaceLaws.{name-back}
 
 -- ## What is put
-
-put-long : {a b : List ℕ} {r p : ℕ} {xs : List ℕ} → Put a b r p xs → p ≤ length a → length b ≡ length a
-put-long {a} {b} {r} {p} {xs} w h = put-length a r p xs (w .starts) h (w .filled)
 
 pub put-of : (a : List ℕ) (r p : ℕ) (xs : List ℕ) {b : List ℕ} → (r + length xs ≡ p) × (b ≡ patch a r xs) → Put a b r p xs
 put-of a r p xs w = record { starts = w .0; filled = w .1 }

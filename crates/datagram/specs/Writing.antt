@@ -4,13 +4,12 @@ use Prim.Native.Nat.{ℕ, zero, suc, _+_, _*_, _-_, _/_, _%_, _≤_, _<_}
 use mathlib.Core.Path.{_≡_}
 use mathlib.Core.Bool.{Bool, true, false, cond, _&&_, _||_}
 use mathlib.Core.List.{List, [], _∷_, _++_, map}
-use lib.ListN.{length, getD, take, replicate}
+use lib.ListN.{length, getD, replicate}
 use lib.Dec.{leb, ltb, eqb}
 use Rattle.octets.specs.Numbers.{beAt, beOctets}
 use Rattle.octets.specs.Parts.{patch}
 use Rattle.names.specs.SubIds.{subids}
 use Rattle.message.specs.declared.form.Place.the-variants.{Kind, Bind, Name}
-use Rattle.message.specs.declared.form.Refusal.{Refusal}
 use Rattle.message.specs.declared.request.Head.{Head}
 use Rattle.message.specs.declared.request.Binding.{Binding}
 use Rattle.message.specs.declared.request.Step.{Step}

@@ -1,5 +1,4 @@
 -- `datagram::sending::put_datagram` meets its contract. Assumes nothing.
-use native.Mathlib.Omega.{arith}
 use borrow.Author.Needs.{needs}
 use Rattle.datagram.proofs.SendLaws.{four-put}
 use Rattle.datagram.proofs.sending.put_datagram.Statement.{statement}
