@@ -4,7 +4,7 @@
  *
  * Sets are counted from 1, since they are never sent twice. From the N-th set on: `lie` changes the last octet of each
  * answer, `silent` answers nothing. `deaf` drops the answer to the N-th set, `forgets` the answer to the first get
- * after it, and `late` sends that one 1500 ms later. Each one: `repeat` sends the answer twice, `elsewhere` first sends
+ * after it, and `late` sends that one 4 seconds later. Each one: `repeat` sends the answer twice, `elsewhere` first sends
  * another one from another port, `foreign` first one of another community. */
 #define _POSIX_C_SOURCE 200809L
 #include <arpa/inet.h>
@@ -31,7 +31,7 @@ static struct sockaddr_in loopback(int port)
 static int open_socket(int port)
 {
     struct sockaddr_in address = loopback(port);
-    struct timeval wait = {.tv_sec = 1};
+    struct timeval wait = {.tv_sec = 10};
     int made = socket(AF_INET, SOCK_DGRAM, 0);
 
     if (made < 0 || bind(made, (struct sockaddr *)&address, sizeof address) != 0) {
@@ -65,7 +65,7 @@ static void answer(const char *mode, long n, long from, bool set, long gets, uns
         return;
     }
     if (strcmp(mode, "late") == 0 && first_get) {
-        nanosleep(&(struct timespec){.tv_sec = 1, .tv_nsec = 500000000}, NULL);
+        nanosleep(&(struct timespec){.tv_sec = 4}, NULL);
     } else if (strcmp(mode, "lie") == 0 && n >= from) {
         octets[count - 1] ^= 1;
     } else if (strcmp(mode, "repeat") == 0) {
