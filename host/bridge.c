@@ -67,18 +67,19 @@ static const char *refusal_flaw(const struct bridge *bridge, const struct reply 
     return room_kept_from(bridge, 0) ? NULL : "a refusal changed the answer room";
 }
 
-static const char *setup_flaw(const struct bridge *bridge, const struct reply *reply)
+/* Of set-up and reset, which have one refusal each, and no answer. */
+static const char *block_call_flaw(const struct bridge *bridge, const struct reply *reply, uint32_t refusal)
 {
-    if (reply->number != RB_ANSWERED && reply->number != RB_SETUP_REFUSED) {
-        return "set-up returned neither 0 nor 9";
+    if (reply->number != RB_ANSWERED && reply->number != refusal) {
+        return "set-up returned neither 0 nor 9, or reset neither 0 nor 3";
     }
     if (reply->number != RB_ANSWERED) {
         return refusal_flaw(bridge, reply);
     }
     if (reply->count != 0) {
-        return "set-up has a count that is not 0";
+        return "set-up or reset has a count that is not 0";
     }
-    return block_kept_past(bridge) ? NULL : "set-up wrote past the block";
+    return block_kept_past(bridge) ? NULL : "set-up or reset wrote past the block";
 }
 
 static const char *answer_call_flaw(const struct bridge *bridge, const struct reply *reply)
@@ -115,7 +116,7 @@ struct reply bridge_setup(struct bridge *bridge, uint32_t ports, const struct oc
 
     note_before(bridge);
     reply = make_reply(rb_setup(bridge->block, bridge->block_lent, ports, address->at, address->count));
-    note_flaw(&reply, setup_flaw(bridge, &reply), 0);
+    note_flaw(&reply, block_call_flaw(bridge, &reply, RB_SETUP_REFUSED), 0);
     if (reply.number == RB_ANSWERED) {
         bridge->ports = ports;
     }
@@ -130,6 +131,16 @@ struct reply bridge_answer(struct bridge *bridge, const struct octets *request)
     reply = make_reply(
         rb_answer(bridge->block, bridge->block_lent, request->at, request->count, bridge->room, bridge->room_lent));
     note_flaw(&reply, answer_call_flaw(bridge, &reply), request->count);
+    return reply;
+}
+
+struct reply bridge_reset(struct bridge *bridge)
+{
+    struct reply reply;
+
+    note_before(bridge);
+    reply = make_reply(rb_reset(bridge->block, bridge->block_lent));
+    note_flaw(&reply, block_call_flaw(bridge, &reply, RB_BLOCK_NOT_LEGAL), 0);
     return reply;
 }
 

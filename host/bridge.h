@@ -33,6 +33,9 @@ struct reply bridge_setup(struct bridge *bridge, uint32_t ports, const struct oc
 /* The answer's octets are at the start of the room. */
 struct reply bridge_answer(struct bridge *bridge, const struct octets *request);
 
+/* Static rows of status 4 go. */
+struct reply bridge_reset(struct bridge *bridge);
+
 struct reply bridge_to_256ths(uint32_t hundredths);
 struct reply bridge_to_hundredths(uint32_t ticks);
 

@@ -88,6 +88,12 @@ static bool read_walk(struct text *text, struct command *command, struct complai
     return name_take(text, "", &command->name, why);
 }
 
+static bool read_nothing(struct text *text, struct command *command, struct complaint *why)
+{
+    (void)text, (void)command, (void)why;
+    return true;
+}
+
 static bool read_raw(struct text *text, struct command *command, struct complaint *why)
 {
     return text_hex_words(text, &command->octets, why);
@@ -158,6 +164,7 @@ static const struct {
 } forms[] = {
     [COMMAND_CASE] = {"case", read_case},
     [COMMAND_BRIDGE] = {"bridge", read_bridge},
+    [COMMAND_RESET] = {"reset", read_nothing},
     [COMMAND_GET] = {"get", read_names},
     [COMMAND_NEXT] = {"next", read_names},
     [COMMAND_WALK] = {"walk", read_walk},

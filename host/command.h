@@ -12,6 +12,7 @@
 enum command_kind {
     COMMAND_CASE,
     COMMAND_BRIDGE,
+    COMMAND_RESET,
     COMMAND_GET,
     COMMAND_NEXT,
     COMMAND_WALK,

@@ -14,6 +14,7 @@ static unsigned fitting(enum command_kind command)
 {
     switch (command) {
     case COMMAND_BRIDGE:
+    case COMMAND_RESET:
         return EXPECTED_REFUSED | EXPECTED_ACCEPTED;
     case COMMAND_GET:
     case COMMAND_NEXT:

@@ -9,7 +9,7 @@
 
 static bool is_accepted(const struct outcome *outcome)
 {
-    return outcome->kind == OUTCOME_SET_UP ||
+    return outcome->kind == OUTCOME_DONE ||
            (outcome->kind == OUTCOME_ANSWERED && outcome->set && outcome->answer.status == 0);
 }
 
@@ -96,7 +96,7 @@ void outcome_print(FILE *out, const struct outcome *outcome)
     case OUTCOME_REFUSED:
         print_refused(out, outcome);
         break;
-    case OUTCOME_SET_UP:
+    case OUTCOME_DONE:
         fputs("accepted", out);
         break;
     case OUTCOME_CONVERTED:

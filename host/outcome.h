@@ -9,7 +9,7 @@
 
 enum outcome_kind {
     OUTCOME_REFUSED,
-    OUTCOME_SET_UP,
+    OUTCOME_DONE, /* set-up or reset */
     OUTCOME_CONVERTED,
     OUTCOME_ANSWERED,
     OUTCOME_NO_RESPONSE, /* answered with octets that are no response */

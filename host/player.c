@@ -20,13 +20,17 @@ static void note_flaw(struct turn *turn, const char *flaw)
     }
 }
 
-static void play_bridge(struct turn *turn)
+/* Set-up and reset, which are done or refused. */
+static void play_block_call(struct turn *turn)
 {
-    struct reply reply = bridge_setup(&turn->player->bridge, turn->command.number, &turn->command.octets);
+    struct bridge *bridge = &turn->player->bridge;
+    struct reply reply = turn->command.kind == COMMAND_RESET
+                             ? bridge_reset(bridge)
+                             : bridge_setup(bridge, turn->command.number, &turn->command.octets);
     struct outcome outcome = refused(reply.number);
 
     if (reply.number == RB_ANSWERED) {
-        outcome = (struct outcome){.kind = OUTCOME_SET_UP};
+        outcome = (struct outcome){.kind = OUTCOME_DONE};
     }
     turn_end(turn, &outcome, NULL);
     note_flaw(turn, reply.flaw);
@@ -183,7 +187,8 @@ static void play_command(struct turn *turn)
 {
     switch (turn->command.kind) {
     case COMMAND_BRIDGE:
-        play_bridge(turn);
+    case COMMAND_RESET:
+        play_block_call(turn);
         break;
     case COMMAND_TO_256THS:
     case COMMAND_TO_HUNDREDTHS:

@@ -3,8 +3,8 @@
  * The caller lends every octet that the library works on: a block that holds one bridge, a request, and a room for the answer. The library keeps
  * nothing between calls, takes no memory, and has no globals, so calls on different blocks may run at the same time.
  *
- * What every call does is an equation with a definition (in the specs of the crates answer, block, timers, tally, datagram, console and walks), proved for all
- * octets, lengths and numbers. What the caller must still promise, because C cannot show it to the library:
+ * What every call does is an equation with a definition (in the specs of the crates answer, block, reset, timers, tally, datagram, console and walks),
+ * proved for all octets, lengths and numbers. What the caller must still promise, because C cannot show it to the library:
  *   - each pointer is valid for as many octets as the length beside it says: `block`, `state` and `room` to read and write, the others to read; a
  *     pointer is not NULL, not even with the length 0;
  *   - block, request and room do not overlap, and neither do block and address, nor datagram, message, community and
@@ -141,6 +141,10 @@ rb_result rb_setup(uint8_t *block, size_t block_len, uint32_t ports, const uint8
 /* Answers one request: the answer stands at the start of the room and has `count` octets; the room's other octets keep theirs. A set without a fault
  * changes the block. Returns 0 to 8; a request that is answered with a fault returns 0 too, and the fault stands in the answer. */
 rb_result rb_answer(uint8_t *block, size_t block_len, const uint8_t *request, size_t request_len, uint8_t *room, size_t room_len);
+
+/* Resets a bridge: static rows of status 4 (deleteOnReset) go, the others close up in order, and all else stays. A second reset changes nothing.
+ * Returns 0 or 3; the count is 0. */
+rb_result rb_reset(uint8_t *block, size_t block_len);
 
 /* Converts a timer from hundredths of a second (0 to 25599) to 256ths, rounded down, or back (0 to 65535), rounded up; the count is the converted value.
  * Returns 0 or 10. */

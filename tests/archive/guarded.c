@@ -1,4 +1,4 @@
-/* Calls with damaged blocks, requests and rooms. Each buffer stands between two pages that must not be touched, once at the front page and once at
+/* Calls and resets with damaged blocks, requests and rooms. Each buffer stands between two pages that must not be touched, once at the front page and once at
  * the back page, so that one octet read or written outside it ends the program. Nothing may be written on a refusal, nor behind an answer. */
 #define _DEFAULT_SOURCE
 #include <sys/mman.h>
@@ -7,6 +7,9 @@
 #include "requests.h"
 
 enum { SPACE = 40960 };
+
+/* Where a block has its number of static rows, and the rows (docs/LAYOUT.md). */
+enum { STATIC_COUNT_AT = 12, STATIC_COUNT_END = 16, STATICS_AT = 21556, STATICS_END = 25652 };
 
 /* Octets between two guard pages, with a copy of what they held before a call. */
 struct guarded {
@@ -17,7 +20,7 @@ struct guarded {
 };
 
 static struct guarded block, request, room;
-static unsigned calls, numbers[11];
+static unsigned calls, resets_with_rows, numbers[11];
 static uint64_t state = 1;
 
 /* xorshift: the same inputs in every run of a seed */
@@ -47,9 +50,14 @@ static void lend(struct guarded *g, const uint8_t *octets, size_t length, int ba
     memcpy(g->before, octets, length);
 }
 
+static int kept_part(const struct guarded *g, size_t from, size_t end)
+{
+    return memcmp(g->octets + from, g->before + from, end - from) == 0;
+}
+
 static int kept(const struct guarded *g, size_t from)
 {
-    return memcmp(g->octets + from, g->before + from, g->length - from) == 0;
+    return kept_part(g, from, g->length);
 }
 
 static void call(void)
@@ -82,6 +90,34 @@ static void play(const uint8_t *b, size_t b_len, const struct octets *r, size_t 
         lend(&request, r->at, r->count, back);
         lend(&room, filling, room_len, back);
         call();
+    }
+}
+
+static void reset(void)
+{
+    rb_result got = rb_reset(block.octets, block.length);
+    calls++;
+    REQUIRE(got.number == RB_ANSWERED || got.number == RB_BLOCK_NOT_LEGAL, "call %u: a reset gave %u", calls, got.number);
+    REQUIRE(got.count == 0 && got.offset == 0, "call %u: a reset has a count or an offset", calls);
+    numbers[got.number]++;
+    if (got.number != RB_ANSWERED) {
+        REQUIRE(kept(&block, 0), "call %u: a refused reset wrote an octet", calls);
+        return;
+    }
+    REQUIRE(kept_part(&block, 0, STATIC_COUNT_AT) && kept_part(&block, STATIC_COUNT_END, STATICS_AT) && kept(&block, STATICS_END),
+            "call %u: a reset wrote outside the static table", calls);
+    resets_with_rows += !kept(&block, 0);
+}
+
+/* Resets a block at the front and at the back of its space, twice each; the second reset writes nothing. */
+static void play_reset(const uint8_t *b, size_t b_len)
+{
+    for (int back = 0; back < 2; back++) {
+        lend(&block, b, b_len, back);
+        reset();
+        memcpy(block.before, block.octets, b_len);
+        reset();
+        REQUIRE(kept(&block, 0), "call %u: a second reset wrote an octet", calls);
     }
 }
 
@@ -143,12 +179,24 @@ static void put_padding(struct octets *r)
         put_string(r, "dot1dBridge", NULL, 0, content, sizeof content);
 }
 
+/* Rows of status 3, 4 and 5 in turn. */
+static void make_static_rows(uint8_t own[RB_BLOCK_SIZE])
+{
+    struct octets r;
+    request_start(&r, RB_SET, 0);
+    for (uint32_t i = 0; i < RB_BINDINGS_MAX; i++)
+        put_number(&r, "dot1dStaticStatus", INDEX(2, 0, 94, 16, 0, i, 0), 3 + i % 3);
+    play(own, RB_BLOCK_SIZE, &r, RB_MESSAGE_MAX);
+    memcpy(own, block.octets, RB_BLOCK_SIZE);
+}
+
 static void play_bridge(uint32_t ports)
 {
     static uint8_t own[RB_BLOCK_SIZE], hurt[SPACE];
     static const uint8_t address[RB_ADDRESS_SIZE] = {2, 0, 0, 0, 0, 1};
     struct octets r;
     REQUIRE(rb_setup(own, sizeof own, ports, address, sizeof address).number == 0, "set-up");
+    make_static_rows(own);
     for (unsigned i = 0; i < 400; i++) {
         random_request(&r);
         if (chance(3) == 0)
@@ -160,7 +208,10 @@ static void play_bridge(uint32_t ports)
         memcpy(hurt, own, sizeof own);
         for (uint32_t n = 1 + chance(2); n > 0; n--)
             hurt[chance(4) == 0 ? chance(RB_BLOCK_SIZE) : chance(6400)] ^= (uint8_t)(1u << chance(8));
-        play(hurt, chance(9) == 0 ? chance(SPACE) : RB_BLOCK_SIZE, &r, chance(9) == 0 ? chance(RB_MESSAGE_MAX) : RB_MESSAGE_MAX);
+        size_t hurt_len = chance(9) == 0 ? chance(SPACE) : RB_BLOCK_SIZE;
+        play(hurt, hurt_len, &r, chance(9) == 0 ? chance(RB_MESSAGE_MAX) : RB_MESSAGE_MAX);
+        play_reset(own, sizeof own);
+        play_reset(hurt, hurt_len);
     }
 }
 
@@ -192,7 +243,8 @@ int main(int argc, char **argv)
     for (size_t i = 0; i < sizeof ports / sizeof ports[0]; i++)
         play_bridge(ports[i]);
     play_setup();
-    printf("guarded: %u calls;", calls);
+    REQUIRE(resets_with_rows > 0, "no reset removed a row, so nothing was tried of it");
+    printf("guarded: %u calls, %u resets that removed rows;", calls, resets_with_rows);
     for (unsigned n = 0; n <= 9; n++) {
         REQUIRE(numbers[n] > 0, "no call gave %u, so nothing was tried of it", n);
         printf(" %u: %u%s", n, numbers[n], n < 9 ? "," : "\n");

@@ -66,8 +66,8 @@ fn make_mutants(out: &Path) {
         copy_changed(&edit, "src/model", &folder);
         let root = folder.join("mod.rs");
         modules += &format!("#[allow(dead_code, unused)]\n#[path = {root:?}]\nmod {module};\n");
-        let calls =
-            ["set_up", "answer", "to_256ths", "to_hundredths"].map(|call| format!("{call}: {module}::calls::{call}"));
+        let calls = ["set_up", "answer", "reset", "to_256ths", "to_hundredths"]
+            .map(|call| format!("{call}: {module}::calls::{call}"));
         let what = format!("{}: {}", path.file_stem().unwrap().to_str().unwrap(), edit.what);
         table += &format!("    ({what:?}, Library {{ {} }}),\n", calls.join(", "));
     }

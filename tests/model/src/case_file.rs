@@ -49,6 +49,7 @@ fn write_step(lines: &mut Vec<String>, block: &mut Vec<u8>, step: &Step) {
             write_poke(lines, *offset, octets);
         }
         Step::Call { request, block_len, room_len } => write_call(lines, block, request, *block_len, *room_len),
+        Step::Reset { block_len } => write_reset(lines, block, *block_len),
         Step::Pair { first, second, room_lens } => {
             lines.push("# the next two, in the other order, must answer the same and leave the same block".to_string());
             write_call(lines, block, first, BLOCK, room_lens[0]);
@@ -57,10 +58,28 @@ fn write_step(lines: &mut Vec<String>, block: &mut Vec<u8>, step: &Step) {
     }
 }
 
-fn write_call(lines: &mut Vec<String>, block: &mut Vec<u8>, request: &[u8], block_len: usize, room_len: usize) {
+fn write_size(lines: &mut Vec<String>, block_len: usize) {
     if block_len != BLOCK {
         lines.push(format!("size {block_len}"));
     }
+}
+
+fn write_reset(lines: &mut Vec<String>, block: &mut Vec<u8>, block_len: usize) {
+    write_size(lines, block_len);
+    lines.push("reset".to_string());
+    let mut given = block.clone();
+    given.resize(block_len, 0);
+    match calls::reset(&mut given) {
+        (0, _, _) => {
+            lines.push("-> accepted".to_string());
+            *block = given;
+        }
+        (refusal, _, _) => lines.push(format!("-> refused {refusal}")),
+    }
+}
+
+fn write_call(lines: &mut Vec<String>, block: &mut Vec<u8>, request: &[u8], block_len: usize, room_len: usize) {
+    write_size(lines, block_len);
     if room_len != LONGEST {
         lines.push(format!("room {room_len}"));
     }

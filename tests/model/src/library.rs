@@ -7,6 +7,7 @@ pub use crate::model::calls::Returned;
 pub struct Library {
     pub set_up: fn(&mut [u8], u32, &[u8]) -> Returned,
     pub answer: fn(&mut [u8], &[u8], &mut [u8]) -> Returned,
+    pub reset: fn(&mut [u8]) -> Returned,
     pub to_256ths: fn(u32) -> Returned,
     pub to_hundredths: fn(u32) -> Returned,
 }
@@ -15,6 +16,7 @@ pub struct Library {
 pub const STAND_IN: Library = Library {
     set_up: calls::set_up,
     answer: calls::answer,
+    reset: calls::reset,
     to_256ths: calls::to_256ths,
     to_hundredths: calls::to_hundredths,
 };
@@ -55,11 +57,12 @@ mod archive {
             room: *mut u8,
             room_len: usize,
         ) -> Result;
+        fn rb_reset(block: *mut u8, block_len: usize) -> Result;
         fn rb_to_256ths(hundredths: u32) -> Result;
         fn rb_to_hundredths(ticks: u32) -> Result;
     }
 
-    pub const LIBRARY: Library = Library { set_up, answer, to_256ths, to_hundredths };
+    pub const LIBRARY: Library = Library { set_up, answer, reset, to_256ths, to_hundredths };
 
     fn returned(result: Result) -> Returned {
         (result.number, result.count, result.offset)
@@ -75,6 +78,10 @@ mod archive {
         returned(unsafe {
             rb_answer(block.as_mut_ptr(), block_len, request.as_ptr(), request.len(), room.as_mut_ptr(), room_len)
         })
+    }
+
+    fn reset(block: &mut [u8]) -> Returned {
+        returned(unsafe { rb_reset(block.as_mut_ptr(), block.len()) })
     }
 
     fn to_256ths(hundredths: u32) -> Returned {

@@ -82,6 +82,7 @@ impl<'a> Player<'a> {
             Step::Call { request, block_len, room_len } => {
                 self.bench.call(&mut self.twin, request, *block_len, *room_len)?;
             }
+            Step::Reset { block_len } => self.bench.reset(&mut self.twin, *block_len)?,
             Step::Pair { first, second, room_lens } => self.pair(first, second, room_lens)?,
         }
         Ok(())
@@ -130,7 +131,7 @@ impl Bench<'_> {
         let returned = if block_len == BLOCK {
             (self.library.answer)(&mut twin.block, &given, &mut room)
         } else {
-            self.call_of_other_length(twin, &given, block_len, &mut room)?
+            call_of_other_length(twin, block_len, |block| (self.library.answer)(block, &given, &mut room))?
         };
         let answer = said.as_deref().unwrap_or_default();
         let expected = match &said {
@@ -145,21 +146,32 @@ impl Bench<'_> {
         Ok(answer.to_vec())
     }
 
-    /// The block's first octets, or the block and more, in an allocation of that length.
-    fn call_of_other_length(
-        &self,
-        twin: &Twin,
-        request: &[u8],
-        block_len: usize,
-        room: &mut [u8],
-    ) -> Result<Returned, Difference> {
-        let mut before = twin.expected.clone();
-        before.resize(block_len, 0);
-        let mut block = before.clone().into_boxed_slice();
-        let returned = (self.library.answer)(&mut block, request, room);
-        same_octets("block of another length", &block, &before)?;
-        Ok(returned)
+    /// One reset, compared with the model.
+    fn reset(&mut self, twin: &mut Twin, block_len: usize) -> Result<(), Difference> {
+        self.tally.note_reset(twin.bridge.as_ref(), block_len);
+        let expected = twin.reset(block_len);
+        let returned = if block_len == BLOCK {
+            (self.library.reset)(&mut twin.block)
+        } else {
+            call_of_other_length(twin, block_len, self.library.reset)?
+        };
+        same_return("reset", returned, expected)?;
+        same_octets("block after a reset", &twin.block, &twin.expected)
     }
+}
+
+/// A call on the block's first octets, or on the block and more, in an allocation of that length.
+fn call_of_other_length(
+    twin: &Twin,
+    block_len: usize,
+    call: impl FnOnce(&mut [u8]) -> Returned,
+) -> Result<Returned, Difference> {
+    let mut before = twin.expected.clone();
+    before.resize(block_len, 0);
+    let mut block = before.clone().into_boxed_slice();
+    let returned = call(&mut block);
+    same_octets("block of another length", &block, &before)?;
+    Ok(returned)
 }
 
 impl Twin {
@@ -173,6 +185,16 @@ impl Twin {
             self.expected = bridge.image();
         }
         Ok(answer)
+    }
+
+    /// What the model says of a reset; the expected block becomes the one afterwards.
+    fn reset(&mut self, block_len: usize) -> Returned {
+        let Some(bridge) = self.bridge.as_mut().filter(|_| block_len == BLOCK) else {
+            return (BLOCK_NOT_LEGAL.number, 0, 0);
+        };
+        bridge.reset();
+        self.expected = bridge.image();
+        (0, 0, 0)
     }
 }
 

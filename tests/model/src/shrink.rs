@@ -49,6 +49,7 @@ impl Shrinker {
         let of_step = |step: &Step| match step {
             Step::Poke { octets, .. } => octets.len(),
             Step::Call { request, .. } => request.len(),
+            Step::Reset { block_len } => usize::from(*block_len != BLOCK),
             Step::Pair { first, second, .. } => first.len() + second.len() + 1,
         };
         self.best.start.vlans.len() + self.best.start.statics.len() + self.best.steps.iter().map(of_step).sum::<usize>()
@@ -124,7 +125,8 @@ fn with_empty_rows(mut bridge: Bridge) -> Bridge {
 /// Steps that may stand in the place of a step.
 fn simpler(step: &Step) -> Vec<Vec<Step>> {
     match step {
-        Step::Poke { .. } => Vec::new(),
+        Step::Poke { .. } | Step::Reset { block_len: BLOCK } => Vec::new(),
+        Step::Reset { .. } => vec![vec![Step::Reset { block_len: BLOCK }]],
         Step::Pair { first, second, .. } => {
             let (first, second) = (Step::call(first.clone()), Step::call(second.clone()));
             vec![vec![first.clone(), second.clone()], vec![second, first]]

@@ -10,6 +10,8 @@ pub enum Step {
     Poke { offset: usize, octets: Vec<u8> },
     /// One answer call, with the lengths of block and room that it is given.
     Call { request: Vec<u8>, block_len: usize, room_len: usize },
+    /// One reset, with the length of the block that it is given.
+    Reset { block_len: usize },
     /// Two set messages, played in both orders on two copies; the history goes on after `first`, `second`.
     Pair { first: Vec<u8>, second: Vec<u8>, room_lens: [usize; 4] },
 }

@@ -4,7 +4,7 @@
 use crate::generate::start;
 use crate::library::Library;
 use crate::model::bridge::Bridge;
-use crate::model::image::{STATIC_ROW, STATIC_ROWS, VLAN_ROW, VLAN_ROWS};
+use crate::model::image::{BLOCK, STATIC_ROW, STATIC_ROWS, VLAN_ROW, VLAN_ROWS};
 use crate::model::message::{write_request, Binding, Content, Kind, Request};
 use crate::model::names::{type_of, Object};
 use crate::player::{Failure, Player};
@@ -74,9 +74,10 @@ pub fn every_block_octet(library: Library, random: &mut Random, tally: &mut Tall
         octets.into_iter().take(ways).map(move |octet| (offset, octet))
     });
     let changes: Vec<(usize, u8)> = changes.collect();
-    let runs = changes
-        .into_iter()
-        .map(|(offset, octet)| vec![Step::Poke { offset, octets: vec![octet] }, Step::call(asked.clone())]);
+    let runs = changes.into_iter().map(|(offset, octet)| {
+        let poke = Step::Poke { offset, octets: vec![octet] };
+        vec![poke, Step::call(asked.clone()), Step::Reset { block_len: BLOCK }]
+    });
     play_all(library, &start, runs, tally)
 }
 

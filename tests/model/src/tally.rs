@@ -2,7 +2,8 @@
 
 use crate::generate::scripts::SCRIPTS;
 use crate::generate::start::PORTS;
-use crate::model::bridge::{Bridge, MOST_ROWS};
+use crate::model::bridge::{Bridge, DELETE_ON_RESET, MOST_ROWS};
+use crate::model::image::BLOCK;
 use crate::model::message::{read, write_answer, Binding, Kind, Refusal, Request, LONGEST};
 use crate::model::names::{split, Object, Shape, TABLE};
 use std::collections::BTreeMap;
@@ -41,6 +42,9 @@ fn required() -> Vec<(&'static str, Vec<u32>)> {
         ("Egress and Forbidden exchanged", vec![0]),
         ("VlanNumDeletes passed 2^32", vec![0]),
         ("ports", PORTS.to_vec()),
+        ("reset refused, by length or by contents", vec![0, 1]),
+        ("reset, by static rows that go: none, some, all", vec![0, 1, 2]),
+        ("reset that gives room where 256 stood", vec![0]),
         ("pair, by accepted messages", vec![0, 1, 2]),
         ("changed block, not legal or legal", vec![0, 1]),
         ("start, fresh or filled", vec![0, 1]),
@@ -71,6 +75,21 @@ impl Tally {
                 self.note_answer(&read(octets).expect("answered"), before, after, answer);
             }
             _ => unreachable!("answered without a legal block"),
+        }
+    }
+
+    /// Notes a reset by the rows that go.
+    pub fn note_reset(&mut self, before: Option<&Bridge>, block_len: usize) {
+        self.calls += 1;
+        let Some(bridge) = before.filter(|_| block_len == BLOCK) else {
+            return self.note("reset refused, by length or by contents", u32::from(block_len == BLOCK));
+        };
+        let rows = bridge.statics.len();
+        let go = bridge.statics.values().filter(|row| row.status == DELETE_ON_RESET).count();
+        let share = u32::from(go > 0) + u32::from(go > 0 && go == rows);
+        self.note("reset, by static rows that go: none, some, all", share);
+        if rows == MOST_ROWS && go > 0 {
+            self.note("reset that gives room where 256 stood", 0);
         }
     }
 

@@ -40,6 +40,19 @@ impl Replay {
         (self.size, self.room) = (32768, 1472);
     }
 
+    fn reset(&mut self) {
+        let mut given = self.block.clone();
+        given.resize(self.size, 0);
+        self.said = match calls::reset(&mut given) {
+            (0, _, _) => "-> accepted".to_string(),
+            (refusal, _, _) => format!("-> refused {refusal}"),
+        };
+        if self.size == self.block.len() {
+            self.block = given;
+        }
+        (self.size, self.room) = (32768, 1472);
+    }
+
     fn line(&mut self, line: &str) {
         let words: Vec<&str> = line.split(' ').collect();
         match words[..] {
@@ -53,6 +66,7 @@ impl Replay {
             }
             ["size", octets] => self.size = octets.parse().unwrap(),
             ["room", octets] => self.room = octets.parse().unwrap(),
+            ["reset"] => self.reset(),
             ["raw", request] => self.call(&hex(request)),
             ["->", ..] => assert_eq!(line, self.said),
             _ => panic!("no line of a case file: {line}"),

@@ -140,6 +140,7 @@ impl Writer {
                     write_poke(&mut self.prelude, *offset, octets);
                 }
                 Step::Call { request, block_len, room_len } => self.call(request, *block_len, *room_len),
+                Step::Reset { block_len } => self.reset(*block_len),
                 Step::Pair { first, second, room_lens } => {
                     self.call(first, BLOCK, room_lens[0]);
                     self.call(second, BLOCK, room_lens[1]);
@@ -148,10 +149,28 @@ impl Writer {
         }
     }
 
-    fn call(&mut self, octets: &[u8], block_len: usize, room_len: usize) {
+    fn size(&mut self, block_len: usize) {
         if block_len != BLOCK {
             self.prelude.push(format!("size {block_len}"));
         }
+    }
+
+    fn reset(&mut self, block_len: usize) {
+        self.size(block_len);
+        self.case("reset".to_string());
+        let mut given = self.block.clone();
+        given.resize(block_len, 0);
+        match calls::reset(&mut given).0 {
+            0 => {
+                self.expect("accepted".to_string());
+                self.block = given;
+            }
+            refusal => self.expect(format!("refused {refusal}")),
+        }
+    }
+
+    fn call(&mut self, octets: &[u8], block_len: usize, room_len: usize) {
+        self.size(block_len);
         if room_len != LONGEST {
             self.prelude.push(format!("room {room_len}"));
         }
@@ -194,7 +213,7 @@ impl Writer {
 fn calls_of(step: &Step) -> usize {
     match step {
         Step::Poke { .. } => 0,
-        Step::Call { .. } => 1,
+        Step::Call { .. } | Step::Reset { .. } => 1,
         Step::Pair { .. } => 2,
     }
 }
@@ -205,6 +224,7 @@ fn fits(step: &Step) -> bool {
         Step::Call { request, block_len, room_len } => {
             request.len() <= MOST_OCTETS && *block_len <= MOST_BLOCK && *room_len <= MOST_ROOM
         }
+        Step::Reset { block_len } => *block_len <= MOST_BLOCK,
         _ => true,
     }
 }

@@ -16,9 +16,9 @@ use crate::step::Step;
 type Script = fn(&mut Random, &Bridge) -> Vec<Step>;
 
 /// All scripts, and how often each comes among a hundred.
-pub const SCRIPTS: [(&str, usize, Script); 17] = [
-    ("get", 12, |random, bridge| call(random, bridge, Kind::Get, any_names)),
-    ("get-next", 12, |random, bridge| call(random, bridge, Kind::GetNext, any_names)),
+pub const SCRIPTS: [(&str, usize, Script); 18] = [
+    ("get", 11, |random, bridge| call(random, bridge, Kind::Get, any_names)),
+    ("get-next", 11, |random, bridge| call(random, bridge, Kind::GetNext, any_names)),
     ("walk of a part", 3, walk_of_a_part),
     ("whole walk", 1, whole_walk),
     ("set and gets", 8, set_and_gets),
@@ -33,6 +33,7 @@ pub const SCRIPTS: [(&str, usize, Script); 17] = [
     ("damaged block", 7, damaged_block),
     ("wrong sizes", 2, |random, bridge| vec![wrong_sizes(random, bridge)]),
     ("long request", 2, |random, bridge| vec![Step::call(long_request(random, bridge))]),
+    ("reset", 2, reset),
     ("pair in both orders", 5, |random, bridge| vec![pair(random, bridge)]),
 ];
 
@@ -211,6 +212,9 @@ fn damaged_block(random: &mut Random, bridge: &Bridge) -> Vec<Step> {
     }
     let intact = random.chance(80);
     let asked = if intact { write_request(&well_formed(random, bridge)) } else { damaged(random, bridge) };
+    if random.chance(30) {
+        steps.push(Step::Reset { block_len: BLOCK });
+    }
     steps.push(Step::call(asked));
     if Bridge::from_block(&after).is_none() {
         let differs = |at: &usize| block[*at] != after[*at];
@@ -218,6 +222,20 @@ fn damaged_block(random: &mut Random, bridge: &Bridge) -> Vec<Step> {
         let last = (0..BLOCK).rfind(differs).unwrap_or(0);
         steps.push(Step::Poke { offset: first, octets: block[first..=last].to_vec() });
     }
+    steps
+}
+
+/// Lengths of a block, wrong ones and, as often as some of them, the right one.
+const BLOCK_LENS: [usize; 12] = [0, 1, 4, 31, 6196, 32767, 32767, 32769, 65536, BLOCK, BLOCK, BLOCK];
+
+/// Resets, the last of them of a whole block, and a set that may make rows in the room that they give.
+fn reset(random: &mut Random, bridge: &Bridge) -> Vec<Step> {
+    let earlier = random.below(3);
+    let mut steps: Vec<Step> = (0..earlier).map(|_| Step::Reset { block_len: random.pick(&BLOCK_LENS) }).collect();
+    steps.push(Step::Reset { block_len: BLOCK });
+    let mut after = bridge.clone();
+    after.reset();
+    steps.extend(call(random, &after, Kind::Set, sets::at_full));
     steps
 }
 
@@ -229,7 +247,7 @@ fn wrong_sizes(random: &mut Random, bridge: &Bridge) -> Step {
         _ => write_request(&well_formed(random, bridge)),
     };
     let room_len = random.pick(&[0, 1, 16, 69, 1471, 1471, 1472, 1472, 2000]);
-    let block_len = random.pick(&[0, 1, 4, 31, 6196, 32767, 32767, 32769, 65536, BLOCK, BLOCK, BLOCK]);
+    let block_len = random.pick(&BLOCK_LENS);
     Step::Call { request, block_len, room_len }
 }
 

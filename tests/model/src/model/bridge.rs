@@ -8,6 +8,9 @@ use std::ops::Bound::{Excluded, Included, Unbounded};
 /// Rows that a growing table can have.
 pub const MOST_ROWS: usize = 256;
 
+/// The status of a static row that a reset removes.
+pub const DELETE_ON_RESET: u32 = 4;
+
 /// Port 1 is the highest bit, as in the octets that are written and read.
 pub type PortSet = u64;
 
@@ -64,6 +67,11 @@ impl Bridge {
             vlans: BTreeMap::from([(1, first)]),
             statics: BTreeMap::new(),
         })
+    }
+
+    /// Static rows that are to be deleted on reset go; all else stays.
+    pub fn reset(&mut self) {
+        self.statics.retain(|_, row| row.status != DELETE_ON_RESET);
     }
 
     /// What an instance holds; none where there is no such instance.

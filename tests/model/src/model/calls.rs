@@ -45,6 +45,15 @@ fn respond(block: &mut [u8], request: &[u8], room_len: usize) -> Result<Vec<u8>,
     Ok(octets)
 }
 
+pub fn reset(block: &mut [u8]) -> Returned {
+    let bridge = Bridge::from_block(block).ok_or(BLOCK_NOT_LEGAL);
+    returned(bridge.map(|mut bridge| {
+        bridge.reset();
+        block.copy_from_slice(&bridge.image());
+        0
+    }))
+}
+
 pub fn to_256ths(hundredths: u32) -> Returned {
     returned(timers::to_256ths(hundredths))
 }
