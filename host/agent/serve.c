@@ -1,4 +1,4 @@
-#define _POSIX_C_SOURCE 200809L
+#define _GNU_SOURCE /* ppoll */
 #include "serve.h"
 
 #include <errno.h>
@@ -180,13 +180,21 @@ static bool take_chunk(struct agent *agent, struct complaint *why)
 bool serve(struct agent *agent, struct complaint *why)
 {
     struct sigaction action = {.sa_handler = end};
+    sigset_t ends, others;
 
     sigaction(SIGTERM, &action, NULL);
     sigaction(SIGINT, &action, NULL);
+    /* A signal to end is taken while the agent waits, and at no other time: one that comes between the test and the waiting would be passed over. */
+    sigemptyset(&ends);
+    sigaddset(&ends, SIGTERM);
+    sigaddset(&ends, SIGINT);
+    sigprocmask(SIG_BLOCK, &ends, &others);
+    sigdelset(&others, SIGTERM);
+    sigdelset(&others, SIGINT);
     while (!ending && (agent->socket >= 0 || agent->serial_in >= 0)) {
         struct pollfd waits[2] = {{.fd = agent->socket, .events = POLLIN}, {.fd = agent->serial_in, .events = POLLIN}};
 
-        if (poll(waits, 2, -1) < 0) {
+        if (ppoll(waits, 2, NULL, &others) < 0) {
             continue; /* a signal */
         }
         if ((waits[0].revents & POLLIN) != 0 && !take_datagram(agent, why)) {
