@@ -7,7 +7,8 @@ void play_counted(struct bridge *bridge, const struct workload *workload)
     static uint8_t room[RB_MESSAGE_MAX];
 
     for (unsigned i = 0; i < COUNTED_CALLS; i++) {
-        const struct request *request = &workload->asked[i % workload->turns];
-        rb_answer(bridge->block, RB_BLOCK_SIZE, request->octets, request->length, room, sizeof room);
+        const struct octets *request = &workload->asked[i % workload->turns];
+
+        rb_answer(bridge->block, RB_BLOCK_SIZE, request->at, request->count, room, sizeof room);
     }
 }

@@ -3,38 +3,40 @@
 
 #include "figures.h"
 
-enum { HEAD = 16, WALK_MAX = 1 << 20, INSTANCES_MAX = 1 << 13, HALVINGS = 3, CALLS = 100 };
+enum { WALK_MAX = 1 << 20, INSTANCES_MAX = 1 << 13, HALVINGS = 3, CALLS = 100 };
 
 /* A walk, and where each of its bindings starts; the last of them is its end. */
 struct walk {
     uint8_t octets[WALK_MAX];
     size_t starts[INSTANCES_MAX];
     size_t instances;
+    struct name last; /* of the last instance; at first the least name that a request can have */
 };
 
 /* Adds the instance after the last one. False at the end of the bridge's instances. */
 static bool add_next(const struct bridge *bridge, struct walk *walk)
 {
-    static const uint8_t least[8]; /* 0.0 */
     static uint8_t block[RB_BLOCK_SIZE], room[RB_MESSAGE_MAX];
-    size_t end = walk->starts[walk->instances], last = walk->instances == 0 ? 0 : walk->starts[walk->instances - 1];
-    const uint8_t *name = walk->instances == 0 ? least : walk->octets + last + 6;
-    size_t size = walk->instances == 0 ? sizeof least : (size_t)name[-2] << 8 | name[-1];
-    struct request request;
+    size_t end = walk->starts[walk->instances];
+    struct octets request;
+    struct answer answer;
+    struct binding binding;
     rb_result result;
 
-    start_request(&request, RB_GET_NEXT, 1);
-    put_binding(&request, name, size, RB_TAG_NULL, least, 0);
+    request_start(&request, RB_GET_NEXT, 1);
+    REQUIRE(request_add(&request, &walk->last, NULL), "a request is too long");
     memcpy(block, bridge->block, sizeof block);
-    result = rb_answer(block, sizeof block, request.octets, request.length, room, sizeof room);
-    REQUIRE(result.number == RB_ANSWERED, "a get-next was refused");
-    if (room[result.count - 3] == RB_TAG_END_OF_MIB_VIEW && room[result.count - 1] == 0) {
+    result = rb_answer(block, sizeof block, request.at, request.count, room, sizeof room);
+    REQUIRE(result.number == RB_ANSWERED && answer_read(&answer, room, result.count) && answer_binding(&answer, &binding),
+            "a get-next has no answer");
+    if (binding.value.tag == RB_TAG_END_OF_MIB_VIEW) {
         return false;
     }
-    REQUIRE(end + result.count - HEAD <= WALK_MAX && walk->instances + 2 <= INSTANCES_MAX, "the walk is too long");
-    memcpy(walk->octets + end, room + HEAD, result.count - HEAD);
+    REQUIRE(end + result.count - HEAD_SIZE <= WALK_MAX && walk->instances + 2 <= INSTANCES_MAX, "the walk is too long");
+    memcpy(walk->octets + end, room + HEAD_SIZE, result.count - HEAD_SIZE);
+    walk->last = binding.name;
     walk->instances++;
-    walk->starts[walk->instances] = end + result.count - HEAD;
+    walk->starts[walk->instances] = end + result.count - HEAD_SIZE;
     return true;
 }
 
@@ -57,7 +59,7 @@ static double time_comparison(const struct walk *walk, const uint8_t *device, si
 
 void print_walks(const struct bridge *bridge)
 {
-    static struct walk walk;
+    static struct walk walk = {.last = {.count = 2}};
     static uint8_t equal[WALK_MAX], changed[WALK_MAX], list[RB_ENTRY_SIZE * INSTANCES_MAX];
 
     while (add_next(bridge, &walk)) {
