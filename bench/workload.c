@@ -191,6 +191,7 @@ void make_bridge(struct bridge *bridge, const char *title, uint32_t ports, bool 
     }
     add(&next, "get 0: the block's check alone", RB_GET, 0);
     add_question(bridge, &next, "get 1: NumPorts", RB_GET, "dot1dBaseNumPorts");
+    add_question(bridge, &next, "get 1: NumVlans", RB_GET, "dot1qNumVlans");
     add_question(bridge, &next, "get 1: Egress of the last VLAN", RB_GET, "dot1qVlanStaticEgressPorts");
     add_questions(bridge, &next, "get 16: over all tables", RB_GET);
     add_question(bridge, &next, "get-next 1: after NumPorts", RB_GET_NEXT, "dot1dBaseNumPorts");

@@ -6,7 +6,7 @@
 
 #include "requests.h"
 
-enum { BRIDGES = 4, WORKLOADS = 11, TURNS = 2 };
+enum { BRIDGES = 4, WORKLOADS = 12, TURNS = 2 };
 
 /* One request, or two that are asked in turn: a set alternates between two contents, so that each call changes the
  * block and finds as much to do as the call before. */

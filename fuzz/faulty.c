@@ -14,7 +14,7 @@
 #include "message.h"
 #include "refbridge.h"
 
-enum { AT_DELETES = 4, AT_FREE = 22, HEADER_OCTETS = 3, NUMBER_OCTETS = 4 };
+enum { AT_DELETES = 4, AT_FREE = 31, HEADER_OCTETS = 3, NUMBER_OCTETS = 4 };
 
 /* Of a number at the end of an answer, with its header. */
 enum { CONTENT_OCTETS = HEADER_OCTETS + NUMBER_OCTETS };

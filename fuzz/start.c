@@ -10,6 +10,7 @@ enum {
     AT_PORTS = 0,
     AT_VLAN_COUNT = 8,
     AT_STATIC_COUNT = 12,
+    AT_VLAN_TOTAL = 22,
     AT_VLAN_ROWS = 6196,
     VLAN_ROW = 60,
     AT_STATIC_ROWS = 21556,
@@ -24,6 +25,7 @@ static void put(uint8_t *at, uint64_t value, unsigned octets)
     }
 }
 
+/* Every second VLAN row is active. */
 static void put_vlan_row(uint8_t *row, uint32_t i, uint64_t all_ports)
 {
     /* Sixteen names as long as can be do not fit into one answer. */
@@ -66,6 +68,7 @@ void start_bridge(uint8_t *block, uint8_t start)
     }
     put(block + AT_VLAN_COUNT, ROWS, 4);
     put(block + AT_STATIC_COUNT, ROWS, 4);
+    put(block + AT_VLAN_TOTAL, ROWS / 2, 2);
     for (uint32_t i = 0; i < ROWS; i++) {
         put_vlan_row(block + AT_VLAN_ROWS + VLAN_ROW * i, i, all_ports);
         put_static_row(block + AT_STATIC_ROWS + STATIC_ROW * i, i, all_ports);

@@ -41,6 +41,9 @@ fn required() -> Vec<(&'static str, Vec<u32>)> {
         ("column before the status that makes its row, VLAN or static", vec![0, 1]),
         ("Egress and Forbidden exchanged", vec![0]),
         ("VlanNumDeletes passed 2^32", vec![0]),
+        ("active VLAN rows", vec![0, 1, 255, 256]),
+        ("set that leaves fewer, as many or more active VLAN rows", vec![0, 1, 2]),
+        ("reset with active VLAN rows, none or some", vec![0, 1]),
         ("ports", PORTS.to_vec()),
         ("reset refused, by length or by contents", vec![0, 1]),
         ("reset, by static rows that go: none, some, all", vec![0, 1, 2]),
@@ -84,6 +87,7 @@ impl Tally {
         let Some(bridge) = before.filter(|_| block_len == BLOCK) else {
             return self.note("reset refused, by length or by contents", u32::from(block_len == BLOCK));
         };
+        self.note("reset with active VLAN rows, none or some", u32::from(bridge.active_vlans() > 0));
         let rows = bridge.statics.len();
         let go = bridge.statics.values().filter(|row| row.status == DELETE_ON_RESET).count();
         let share = u32::from(go > 0) + u32::from(go > 0 && go == rows);
@@ -111,6 +115,10 @@ impl Tally {
             if matches!(rows, 0 | 1 | 254..) {
                 self.note(title, rows as u32);
             }
+        }
+        let active = before.active_vlans();
+        if matches!(active, 0 | 1 | 255..) {
+            self.note("active VLAN rows", active as u32);
         }
         if answer.len() == LONGEST {
             self.note("answer of 1472 octets", 0);
@@ -148,6 +156,9 @@ impl Tally {
         if after.vlan_deletes < before.vlan_deletes {
             self.note("VlanNumDeletes passed 2^32", 0);
         }
+        let (was, is) = (before.active_vlans(), after.active_vlans());
+        let change = 1 + u32::from(is > was) - u32::from(is < was);
+        self.note("set that leaves fewer, as many or more active VLAN rows", change);
         for (at, binding) in bindings.iter().enumerate() {
             let Some((entry, index)) = split(&binding.name) else { continue };
             self.note("object written", entry.object as u32);

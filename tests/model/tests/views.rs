@@ -4,6 +4,7 @@ mod common;
 
 use common::*;
 use refbridge_model::model::bridge::{all_ports, StaticRow, VlanRow};
+use refbridge_model::model::calls;
 use refbridge_model::model::message::{Binding, Content};
 use refbridge_model::model::names::{type_of, Object, TABLE};
 use refbridge_model::Bridge;
@@ -106,11 +107,50 @@ fn an_image_is_read_back() {
 #[test]
 fn fresh_octets() {
     let block = fresh(4).image();
-    assert_eq!(block[..32], hex("00000004 00000000 00000001 00000000 001122334455 00000000000000000000"));
+    assert_eq!(block[..32], hex("00000004 00000000 00000001 00000000 001122334455 0001 0000000000000000"));
     assert_eq!(block[32..52], hex("00008000 000007D0 000000C8 000005DC 00000080"));
     assert_eq!(block[6196..6200], hex("0001 01 00"));
     assert_eq!(block[6196 + 36..6196 + 60], hex("F000000000000000 0000000000000000 F000000000000000"));
     assert_eq!(block.len(), 32768);
+}
+
+/// The stored total (octets 22 and 23) follows every change of the active rows.
+#[test]
+fn the_total_of_active_rows() {
+    let mut bridge = fresh(4);
+    let status = |id: u32, status: i32| vec![(format!("7.1.4.3.1.5.{id}"), integer(status))];
+    let of_many = |wanted: i32| (2..18).flat_map(|id| status(id, wanted)).collect();
+    let steps: [(Vec<(String, Content)>, u16); 10] = [
+        (status(10, 5), 1),
+        (status(10, 1), 2),
+        (status(10, 1), 2),
+        (status(10, 2), 1),
+        (status(10, 6), 1),
+        (of_many(4), 17),
+        (status(20, 6), 17),
+        (of_many(6), 1),
+        (status(1, 2), 0),
+        (status(1, 6), 0),
+    ];
+    for (message, total) in steps {
+        let message: Vec<(&str, Content)> =
+            message.iter().map(|(text, value)| (text.as_str(), value.clone())).collect();
+        assert_eq!(set(&mut bridge, &message), (0, 0));
+        let mut block = bridge.image();
+        assert_eq!(
+            (&block[22..24], get(&bridge, "7.1.1.4.0")),
+            (&total.to_be_bytes()[..], Content::Unsigned(total.into()))
+        );
+        assert_eq!(calls::reset(&mut block), (0, 0, 0));
+        assert_eq!(block[22..24], total.to_be_bytes());
+    }
+    // A row out of service, with the total that fits and with the one before.
+    let mut block = with_rows(4).image();
+    assert_eq!(block[22..24], [0, 4]);
+    block[6198] = 2;
+    assert_eq!(Bridge::from_block(&block), None);
+    block[23] = 3;
+    assert_eq!(Bridge::from_block(&block).map(|bridge| bridge.active_vlans()), Some(3));
 }
 
 /// Blocks that differ from a legal one in a few octets and are not legal.
@@ -118,7 +158,7 @@ fn fresh_octets() {
 fn blocks_that_are_not_legal() {
     let legal = with_rows(4).image();
     let (vlan, fixed) = (6196, 21556);
-    let changes: [(usize, &[u8]); 22] = [
+    let changes: [(usize, &[u8]); 24] = [
         (3, &[0]),
         (3, &[65]),
         (11, &[4]),
@@ -126,6 +166,8 @@ fn blocks_that_are_not_legal() {
         (10, &[1, 1]),
         (15, &[3]),
         (22, &[1]),
+        (23, &[0]),
+        (24, &[1]),
         (36, &[0, 0, 2, 87]),
         (64, &[0, 0, 0, 1]),
         (5940, &[1]),

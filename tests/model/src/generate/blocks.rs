@@ -11,7 +11,24 @@ pub type Poke = (usize, Vec<u8>);
 /// One change, or a few.
 pub fn pokes(random: &mut Random, bridge: &Bridge, block: &[u8]) -> Vec<Poke> {
     let several = random.pick(&[1, 1, 1, 1, 2, 4]);
-    (0..several).map(|_| poke(random, bridge, block)).collect()
+    let mut pokes: Vec<Poke> = (0..several).map(|_| poke(random, bridge, block)).collect();
+    // Rows are changed more often than by their status alone, so the stored total is made to fit, or not.
+    if random.chance(50) {
+        pokes.push(fitting_total(block, &pokes));
+    }
+    pokes
+}
+
+/// The total of the rows that are active after some changes.
+fn fitting_total(block: &[u8], pokes: &[Poke]) -> Poke {
+    let mut after = block.to_vec();
+    for (offset, octets) in pokes {
+        after[*offset..offset + octets.len()].copy_from_slice(octets);
+    }
+    let rows = usize::from(after[VLAN_COUNT + 2]) * 256 + usize::from(after[VLAN_COUNT + 3]);
+    let statuses = after[VLAN_ROWS..STATIC_ROWS].chunks_exact(VLAN_ROW).map(|row| row[2]);
+    let active = statuses.take(rows).filter(|status| *status == 1).count();
+    (VLAN_TOTAL, (active as u16).to_be_bytes().to_vec())
 }
 
 fn poke(random: &mut Random, bridge: &Bridge, block: &[u8]) -> Poke {
@@ -33,10 +50,13 @@ fn changed(random: &mut Random, block: &[u8], range: std::ops::Range<usize>) -> 
     (at, vec![octet])
 }
 
+/// Where the parts of the layout end.
+const PART_ENDS: [usize; 9] = [22, 24, 32, 5940, 6196, 21556, 25652, 26164, BLOCK];
+
 /// The parts of the layout, the ends of each more often.
 fn anywhere_of_a_part(random: &mut Random, block: &[u8]) -> Poke {
-    let part =
-        random.pick(&[0..22, 22..32, 32..5940, 5940..6196, 6196..21556, 21556..25652, 25652..26164, 26164..BLOCK]);
+    let at = random.below(PART_ENDS.len());
+    let part = if at == 0 { 0 } else { PART_ENDS[at - 1] }..PART_ENDS[at];
     match random.below(3) {
         0 => changed(random, block, part.start..part.start + 1),
         1 => changed(random, block, part.end - 1..part.end),
@@ -55,10 +75,11 @@ fn head(random: &mut Random, bridge: &Bridge) -> Poke {
             [now.wrapping_sub(1), now + 1, 0, 64, 65, 256, 257, now + 0x100, now | 0x8000_0000, now + 0x0100_0000];
         number(random.pick(&values))
     };
-    match random.below(4) {
+    match random.below(5) {
         0 => (PORTS, near(random, bridge.ports)),
         1 => (VLAN_COUNT, near(random, vlans)),
         2 => (STATIC_COUNT, near(random, statics)),
+        3 => (VLAN_TOTAL, near(random, bridge.active_vlans() as u32)[2..].to_vec()),
         _ => (ADDRESS + random.below(16), vec![random.octet()]),
     }
 }

@@ -34,9 +34,11 @@ pub fn filled(random: &mut Random, mut bridge: Bridge) -> Bridge {
     let (vlans, statics) = (rows(random), rows(random));
     let dense = random.chance(50);
     let first = random.pick(&[1, 2, 1000, 4094 - 255]);
+    // Of a hundred rows; where all are active, the total of a full table is 256.
+    let active = random.pick(&[60, 60, 100]);
     while bridge.vlans.len() < vlans {
         let id = if dense { first + bridge.vlans.len() as u32 } else { random.within(1, 4094) };
-        bridge.vlans.insert(id, vlan_row(random, bridge.ports));
+        bridge.vlans.insert(id, vlan_row(random, bridge.ports, active));
     }
     while bridge.statics.len() < statics {
         let index = static_index(random, bridge.ports, dense);
@@ -51,11 +53,11 @@ fn rows(random: &mut Random) -> usize {
     random.pick(&[0, 1, 2, few, few, 100, 254, 255, 255, 256, 256])
 }
 
-fn vlan_row(random: &mut Random, ports: u32) -> VlanRow {
+fn vlan_row(random: &mut Random, ports: u32, active: usize) -> VlanRow {
     let egress = port_set(random, ports);
     let octets = random.within(0, 32) as usize;
     VlanRow {
-        active: random.chance(60),
+        active: random.chance(active),
         name: random.octets(octets),
         egress,
         forbidden: port_set(random, ports) & !egress,

@@ -74,6 +74,11 @@ impl Bridge {
         self.statics.retain(|_, row| row.status != DELETE_ON_RESET);
     }
 
+    /// How many VLAN rows are active: NumVlans, and the total that a block stores (E5).
+    pub fn active_vlans(&self) -> usize {
+        self.vlans.values().filter(|row| row.active).count()
+    }
+
     /// What an instance holds; none where there is no such instance.
     pub fn get(&self, object: Object, index: &[u32]) -> Option<Content> {
         let shape = type_of(object).shape;
@@ -102,7 +107,7 @@ impl Bridge {
             Object::VlanVersionNumber => integer(1),
             Object::MaxVlanId => integer(4094),
             Object::MaxSupportedVlans => Content::Unsigned(MOST_ROWS as u32),
-            Object::NumVlans => Content::Unsigned(self.vlans.values().filter(|row| row.active).count() as u32),
+            Object::NumVlans => Content::Unsigned(self.active_vlans() as u32),
             Object::VlanNumDeletes => Content::Counter(self.vlan_deletes),
             Object::Pvid => Content::Unsigned(self.settings[&object][place(index)]),
             _ => integer(self.settings[&object][place(index)]),

@@ -10,6 +10,7 @@ pub const DELETES: usize = 4;
 pub const VLAN_COUNT: usize = 8;
 pub const STATIC_COUNT: usize = 12;
 pub const ADDRESS: usize = 16;
+pub const VLAN_TOTAL: usize = 22;
 pub const VLAN_ROWS: usize = 6196;
 pub const VLAN_ROW: usize = 60;
 pub const STATIC_ROWS: usize = 21556;
@@ -42,6 +43,7 @@ impl Bridge {
         put(&mut block, VLAN_COUNT, &(self.vlans.len() as u32).to_be_bytes());
         put(&mut block, STATIC_COUNT, &(self.statics.len() as u32).to_be_bytes());
         put(&mut block, ADDRESS, &self.address);
+        put(&mut block, VLAN_TOTAL, &(self.active_vlans() as u16).to_be_bytes());
         for (object, start) in CELLS {
             for (place, number) in self.settings[&object].iter().enumerate() {
                 put(&mut block, start + 4 * place, &number.to_be_bytes());
@@ -81,7 +83,8 @@ impl Bridge {
             vlans: vlan_rows(block, ports)?,
             statics: static_rows(block, ports)?,
         };
-        // Octets that hold nothing must be 0, which the one image of this content shows.
+        // Octets that hold nothing must be 0, and the stored total (E5) must be that of the active rows: the one image of
+        // this content shows both.
         (bridge.image() == block).then_some(bridge)
     }
 }
