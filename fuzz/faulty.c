@@ -8,7 +8,7 @@
  *   9 a fault names no binding                    10 the number is none of 0 to 8
  *  11 a value is of another type than its object   12 an accepted set is one that must not be
  *  13 an offset is past the request's end          14 a return that is not 4 to 8 has an offset
- *  15 a 17th binding has the offset of its contents */
+ *  15 a 17th binding has the offset of its contents  16 timers are accepted that do not belong together */
 #include <stdlib.h>
 
 #include "message.h"
@@ -66,6 +66,11 @@ static void break_answer(uint8_t *block, uint8_t *request, size_t request_len, u
         break;
     case 12:
         if (request[KIND_AT] == RB_SET && room[STATUS_AT] == RB_NOT_WRITABLE) {
+            room[STATUS_AT] = room[INDEX_AT] = 0;
+        }
+        break;
+    case 16:
+        if (request[KIND_AT] == RB_SET && room[STATUS_AT] == RB_INCONSISTENT_VALUE) {
             room[STATUS_AT] = room[INDEX_AT] = 0;
         }
         break;

@@ -1,11 +1,14 @@
 #include "reply.h"
 
 #include <stdbool.h>
+#include <string.h>
 
 #include "answer.h"
 #include "refbridge.h"
 
-enum { STATUSES = 19, PRIORITIES = 8, VLAN_MAX = 4094, OCTET_MAX = 255 };
+enum { STATUSES = 19, PRIORITIES = 8, VLAN_MAX = 4094, OCTET_MAX = 255, TIMERS = 3 };
+
+#define SECOND 100u /* in hundredths */
 
 static uint32_t number_of(const struct value *value)
 {
@@ -118,17 +121,47 @@ static const char *gets_flaw(struct answer request, struct answer answer, uint32
     return NULL;
 }
 
-/* A set without a fault writes objects that can be written, with values that they can have. */
+/* True where the binding is of a timer, whose place among the three is noted. */
+static bool is_timer(const struct binding *binding, size_t *place)
+{
+    static const char *const timers[TIMERS] = {"dot1dStpBridgeMaxAge", "dot1dStpBridgeHelloTime",
+                                               "dot1dStpBridgeForwardDelay"};
+    const char *name = name_object(&binding->name)->name;
+
+    for (*place = 0; *place < TIMERS; ++*place) {
+        if (strcmp(name, timers[*place]) == 0) {
+            return true;
+        }
+    }
+    return false;
+}
+
+/* The rules of MaxAge, HelloTime and ForwardDelay, in hundredths; a set that binds not all three is not judged here. */
+static bool timers_agree(const uint32_t timers[TIMERS])
+{
+    if (timers[0] == 0 || timers[1] == 0 || timers[2] == 0) {
+        return true;
+    }
+    return 2 * (timers[2] - SECOND) >= timers[0] && timers[0] >= 2 * (timers[1] + SECOND);
+}
+
+/* A set without a fault writes objects that can be written, with values that they can have, and timers that belong
+ * together. */
 static const char *accepted_flaw(struct answer request, uint32_t ports)
 {
+    uint32_t timers[TIMERS] = {0};
     struct binding binding;
+    size_t place;
 
     while (answer_binding(&request, &binding)) {
         if (!is_instance(&binding, ports) || name_object(&binding.name)->access != WRITABLE) {
             return "a set is accepted that writes what cannot be written";
         }
+        if (is_timer(&binding, &place)) {
+            timers[place] = number_of(&binding.value);
+        }
     }
-    return NULL;
+    return timers_agree(timers) ? NULL : "a set is accepted whose timers do not belong together";
 }
 
 const char *reply_flaw(const struct octets *request, const uint8_t *room, size_t count, uint32_t ports)

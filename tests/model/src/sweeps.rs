@@ -1,12 +1,12 @@
 //! What is tried octet by octet and name by name, and not at random: every octet of a block and of some requests
-//! changed, every cut of these requests, and every name beside an instance.
+//! changed, every range at its ends, every cut of these requests, and every name beside an instance.
 
 use crate::generate::start;
 use crate::library::Library;
 use crate::model::bridge::Bridge;
-use crate::model::image::{BLOCK, STATIC_ROW, STATIC_ROWS, VLAN_ROW, VLAN_ROWS};
+use crate::model::image::{BLOCK, CELLS, STATIC_ROW, STATIC_ROWS, VLAN_ROW, VLAN_ROWS};
 use crate::model::message::{write_request, Binding, Content, Kind, Request};
-use crate::model::names::{type_of, Object};
+use crate::model::names::{type_of, Object, Syntax};
 use crate::player::{Failure, Player};
 use crate::random::Random;
 use crate::step::{History, Step};
@@ -79,6 +79,38 @@ pub fn every_block_octet(library: Library, random: &mut Random, tally: &mut Tall
         vec![poke, Step::call(asked.clone()), Step::Reset { block_len: BLOCK }]
     });
     play_all(library, &start, runs, tally)
+}
+
+/// Every object's numbers at the ends of their range and one beyond. All others are at the same ends, where the timers
+/// belong together with room on both sides but for the least ForwardDelay, so that a rule hides no range.
+pub fn every_range(library: Library, random: &mut Random, tally: &mut Tally) -> Swept {
+    let asked = message(Kind::Get, vec![bind(Object::NumPorts, &[0], Content::Null)]);
+    for at_high in [false, true] {
+        let mut start = Bridge::fresh(9, &start::address(random)).expect("1 to 64 ports");
+        for (object, numbers) in &mut start.settings {
+            let (low, high) = range(*object);
+            numbers.fill(if at_high { high } else { low });
+        }
+        let pokes = CELLS.iter().flat_map(|(object, first)| {
+            let (low, high) = range(*object);
+            let last = first + 4 * (start.settings[object].len() - 1);
+            let numbers = if at_high { [high, high + 1] } else { [low, low.wrapping_sub(1)] };
+            [(*first, numbers[0]), (*first, numbers[1]), (last, numbers[0]), (last, numbers[1])]
+        });
+        let runs = pokes.map(|(offset, number)| {
+            let poke = Step::Poke { offset, octets: number.to_be_bytes().to_vec() };
+            vec![poke, Step::call(asked.clone()), Step::Reset { block_len: BLOCK }]
+        });
+        play_all(library, &start, runs.collect::<Vec<_>>().into_iter(), tally)?;
+    }
+    Ok(())
+}
+
+fn range(object: Object) -> (u32, u32) {
+    match type_of(object).syntax {
+        Syntax::Integer(low, high) | Syntax::Unsigned(low, high) => (low, high),
+        _ => unreachable!("{object:?} has no cells"),
+    }
 }
 
 /// Requests of each kind with contents of each type.

@@ -2,10 +2,11 @@
 
 use crate::generate::scripts::SCRIPTS;
 use crate::generate::start::PORTS;
-use crate::model::bridge::{Bridge, DELETE_ON_RESET, MOST_ROWS};
+use crate::model::bridge::{Bridge, DELETE_ON_RESET, MOST_ROWS, TIMERS};
 use crate::model::image::BLOCK;
 use crate::model::message::{read, write_answer, Binding, Kind, Refusal, Request, LONGEST};
-use crate::model::names::{split, Object, Shape, TABLE};
+use crate::model::names::{split, type_of, Object, Shape, TABLE};
+use crate::model::set::INCONSISTENT_VALUE;
 use std::collections::BTreeMap;
 
 #[derive(Default)]
@@ -41,6 +42,9 @@ fn required() -> Vec<(&'static str, Vec<u32>)> {
         ("column before the status that makes its row, VLAN or static", vec![0, 1]),
         ("Egress and Forbidden exchanged", vec![0]),
         ("VlanNumDeletes passed 2^32", vec![0]),
+        ("set accepted, by timers bound", vec![1, 2, 3]),
+        ("timers at the limit that MaxAge sets, of HelloTime or ForwardDelay", vec![0, 1]),
+        ("12 on a timer, by timers bound", vec![1, 2, 3]),
         ("active VLAN rows", vec![0, 1, 255, 256]),
         ("set that leaves fewer, as many or more active VLAN rows", vec![0, 1, 2]),
         ("reset with active VLAN rows, none or some", vec![0, 1]),
@@ -136,6 +140,10 @@ impl Tally {
             (Kind::Set, fault) => {
                 self.note("set at fault", fault.into());
                 self.note("fault at binding", index.into());
+                let faulted = &request.bindings[usize::from(index) - 1..][..1];
+                if fault == INCONSISTENT_VALUE && timers_bound(faulted) > 0 {
+                    self.note("12 on a timer, by timers bound", timers_bound(&request.bindings));
+                }
             }
             (kind, 1) => {
                 self.note("tooBig, get or get-next", u32::from(kind == Kind::GetNext));
@@ -156,6 +164,9 @@ impl Tally {
         if after.vlan_deletes < before.vlan_deletes {
             self.note("VlanNumDeletes passed 2^32", 0);
         }
+        if timers_bound(bindings) > 0 {
+            self.note_timers(timers_bound(bindings), after.timers());
+        }
         let (was, is) = (before.active_vlans(), after.active_vlans());
         let change = 1 + u32::from(is > was) - u32::from(is < was);
         self.note("set that leaves fewer, as many or more active VLAN rows", change);
@@ -169,6 +180,17 @@ impl Tally {
             if entry.object == Object::VlanEgress && exchanged(before, after, index[0]) {
                 self.note("Egress and Forbidden exchanged", 0);
             }
+        }
+    }
+
+    /// Notes timers that a set has bound, and where one rule just holds.
+    fn note_timers(&mut self, bound: u32, [max_age, hello_time, forward_delay]: [u32; 3]) {
+        self.note("set accepted, by timers bound", bound);
+        if max_age == 2 * (hello_time + 100) {
+            self.note("timers at the limit that MaxAge sets, of HelloTime or ForwardDelay", 0);
+        }
+        if 2 * (forward_delay - 100) == max_age {
+            self.note("timers at the limit that MaxAge sets, of HelloTime or ForwardDelay", 1);
         }
     }
 
@@ -230,6 +252,12 @@ fn label(title: &str, number: u32) -> String {
         "script" => SCRIPTS[number as usize].0.to_string(),
         _ => format!("{number}:"),
     }
+}
+
+/// How many timers the bindings name.
+fn timers_bound(bindings: &[Binding]) -> u32 {
+    let named = TIMERS.map(|timer| bindings.iter().any(|binding| binding.name == type_of(timer).name(&[0])));
+    named.into_iter().map(u32::from).sum()
 }
 
 /// A port went from Egress to Forbidden, and another one the other way.

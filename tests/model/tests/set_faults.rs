@@ -66,9 +66,6 @@ fn type_length_value_and_index_in_this_order() {
 fn ranges_of_the_settings() {
     let ranges = [
         ("2.2.0", 0, 65535),
-        ("2.12.0", 600, 4000),
-        ("2.13.0", 100, 1000),
-        ("2.14.0", 400, 3000),
         ("2.15.1.2.4", 0, 255),
         ("2.15.1.4.4", 1, 2),
         ("2.15.1.5.4", 1, 65535),
@@ -85,6 +82,25 @@ fn ranges_of_the_settings() {
             assert_eq!(set(&mut bridge, &[(text, integer(number))]), (0, 0), "{text}");
             assert_eq!(get(&bridge, text), integer(number));
         }
+        for number in [low - 1, high + 1, i32::MIN, i32::MAX] {
+            assert_eq!(set(&mut bridge, &[(text, integer(number))]), (10, 1), "{text}");
+        }
+    }
+}
+
+/// The lower ends of the timers' ranges belong together, and so do the upper ones.
+#[test]
+fn ranges_of_the_timers() {
+    let ranges = [("2.12.0", 600, 4000), ("2.13.0", 100, 1000), ("2.14.0", 400, 3000)];
+    let mut bridge = fresh(4);
+    for ends in [ranges.map(|(text, low, _)| (text, integer(low))), ranges.map(|(text, _, high)| (text, integer(high)))]
+    {
+        assert_eq!(set(&mut bridge, &ends), (0, 0));
+        for (text, number) in ends {
+            assert_eq!(get(&bridge, text), number);
+        }
+    }
+    for (text, low, high) in ranges {
         for number in [low - 1, high + 1, i32::MIN, i32::MAX] {
             assert_eq!(set(&mut bridge, &[(text, integer(number))]), (10, 1), "{text}");
         }
@@ -185,4 +201,28 @@ fn the_lowest_faulted_binding_is_named() {
     let mixed = [("2.2.0", integer(1)), ("2.12.0", integer(1)), ("1.2.0", integer(1))];
     assert_eq!(set(&mut fresh(4), &mixed), (10, 2));
     assert_eq!(set(&mut fresh(4), &[]), (0, 0));
+}
+
+/// MaxAge, HelloTime and ForwardDelay of a fresh bridge are 2000, 200 and 1500.
+#[test]
+fn timers_are_judged_together() {
+    let judged = |bindings: &[(&str, i32)]| {
+        let bindings: Vec<(&str, Content)> = bindings.iter().map(|(text, number)| (*text, integer(*number))).collect();
+        set(&mut fresh(4), &bindings)
+    };
+    let (max_age, hello_time, forward_delay) = ("2.12.0", "2.13.0", "2.14.0");
+    assert_eq!([1099, 1100].map(|number| judged(&[(forward_delay, number)])), [(12, 1), (0, 0)]);
+    assert_eq!([900, 901].map(|number| judged(&[(hello_time, number)])), [(0, 0), (12, 1)]);
+    assert_eq!([600, 2800, 2801].map(|number| judged(&[(max_age, number)])), [(0, 0), (0, 0), (12, 1)]);
+    // Each timer binding gets 12, and no other one.
+    assert_eq!(judged(&[("2.2.0", 1), (hello_time, 200), (max_age, 4000)]), (12, 2));
+    assert_eq!(judged(&[(max_age, 4000), (forward_delay, 2100)]), (0, 0));
+    assert_eq!(judged(&[(max_age, 4000), (forward_delay, 2099)]), (12, 1));
+    assert_eq!(judged(&[(max_age, 2200), (hello_time, 1000), (forward_delay, 1200)]), (0, 0));
+    assert_eq!(judged(&[(max_age, 2200), (hello_time, 1000), (forward_delay, 1199)]), (12, 1));
+    // A binding with an earlier fault does not count: MaxAge stays 2000.
+    assert_eq!(judged(&[(forward_delay, 1099), (max_age, 5000)]), (12, 1));
+    assert_eq!(judged(&[(forward_delay, 1100), (max_age, 5000)]), (10, 2));
+    assert_eq!(judged(&[(forward_delay, 1099), ("2.12.1", 600)]), (12, 1));
+    assert_eq!(judged(&[(forward_delay, 1099), (forward_delay, 1500)]), (12, 1));
 }

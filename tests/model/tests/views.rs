@@ -158,7 +158,7 @@ fn the_total_of_active_rows() {
 fn blocks_that_are_not_legal() {
     let legal = with_rows(4).image();
     let (vlan, fixed) = (6196, 21556);
-    let changes: [(usize, &[u8]); 24] = [
+    let changes: [(usize, &[u8]); 26] = [
         (3, &[0]),
         (3, &[65]),
         (11, &[4]),
@@ -169,6 +169,8 @@ fn blocks_that_are_not_legal() {
         (23, &[0]),
         (24, &[1]),
         (36, &[0, 0, 2, 87]),
+        (40, &[0, 0, 3, 133]),
+        (44, &[0, 0, 4, 75]),
         (64, &[0, 0, 0, 1]),
         (5940, &[1]),
         (vlan, &[0, 2]),
@@ -199,6 +201,13 @@ fn what_two_messages_name_in_common() {
     let crosses = |a: &str, b: &str| bridge.may_cross(&[binding(a, integer(1))], &[binding(b, integer(1))]);
     assert!(!crosses("2.2.0", "2.2.0"));
     assert!(crosses("2.2", "2.2.0"));
+    // The three timers are one scalar.
+    for (one, other) in [("2.12.0", "2.12.0"), ("2.12.0", "2.13.0"), ("2.13.0", "2.14.0"), ("2.14.0", "2.12.0")] {
+        assert!(!crosses(one, other) && !crosses(other, one));
+    }
+    assert!(crosses("2.12.0", "2.2.0"));
+    assert!(crosses("2.12", "2.13.0"));
+    assert!(crosses("2.12.1", "2.13.0"));
     assert!(!crosses("2.15.1.1.3", "2.15.1.5.3"));
     assert!(crosses("2.15.1.3.3", "2.15.1.5.3"));
     assert!(crosses("2.15.1.2.3", "7.1.4.5.1.2.3"));

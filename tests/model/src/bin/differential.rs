@@ -12,7 +12,7 @@ use refbridge_model::player::{play, Failure, Player};
 use refbridge_model::random::Random;
 use refbridge_model::shrink::shrink;
 use refbridge_model::step::History;
-use refbridge_model::sweeps::{every_block_octet, every_name, every_request_octet};
+use refbridge_model::sweeps::{every_block_octet, every_name, every_range, every_request_octet};
 use refbridge_model::tally::Tally;
 use refbridge_model::Bridge;
 use std::panic::{catch_unwind, AssertUnwindSafe};
@@ -31,8 +31,9 @@ struct Options {
 }
 
 /// What is tried in order and not at random, after the histories.
-const SWEEPS: [(&str, Sweep); 3] = [
+const SWEEPS: [(&str, Sweep); 4] = [
     ("every octet of a block", every_block_octet),
+    ("every range", every_range),
     ("every octet of a request", every_request_octet),
     ("every name", every_name),
 ];

@@ -1,5 +1,6 @@
 //! Changes of a block's octets from outside, most of which make it no legal image.
 
+use super::contents::timers;
 use crate::model::bridge::{instances, Bridge};
 use crate::model::image::*;
 use crate::model::names::{type_of, Syntax};
@@ -32,13 +33,14 @@ fn fitting_total(block: &[u8], pokes: &[Poke]) -> Poke {
 }
 
 fn poke(random: &mut Random, bridge: &Bridge, block: &[u8]) -> Poke {
-    match random.below(10) {
+    match random.below(11) {
         0 => changed(random, block, 0..BLOCK),
         1 => anywhere_of_a_part(random, block),
         2 => head(random, bridge),
-        3 | 4 => cell(random, bridge),
-        5 | 6 => vlan_row(random, bridge, block),
-        7 | 8 => static_row(random, bridge, block),
+        3 => timer_cells(random, bridge),
+        4 | 5 => cell(random, bridge),
+        6 | 7 => vlan_row(random, bridge, block),
+        8 | 9 => static_row(random, bridge, block),
         _ => (DELETES, random.octets(4)),
     }
 }
@@ -93,6 +95,12 @@ fn cell(random: &mut Random, bridge: &Bridge) -> Poke {
     let any = random.number() as u32;
     let values = [low, high, low.wrapping_sub(1), high + 1, low | 0x8000_0000, low + 0x0001_0000, 0, any];
     (start + 4 * place, number(random.pick(&values)))
+}
+
+/// The three timers, which stand one after the other.
+fn timer_cells(random: &mut Random, bridge: &Bridge) -> Poke {
+    let (timers, _) = timers(random, bridge.timers());
+    (MAX_AGE, timers.into_iter().flat_map(number).collect())
 }
 
 fn row_octets(block: &[u8], start: usize, size: usize, place: usize) -> Vec<u8> {

@@ -1,8 +1,8 @@
 //! Contents to write: right ones, and wrong in type, length or value.
 
-use crate::model::bridge::{all_ports, Bridge, PortSet};
+use crate::model::bridge::{all_ports, timers_agree, Bridge, PortSet, TIMERS};
 use crate::model::message::Content;
-use crate::model::names::{ObjectType, Syntax};
+use crate::model::names::{type_of, ObjectType, Syntax};
 use crate::random::Random;
 
 /// A set of ports 1..N: few, many, all or none.
@@ -23,6 +23,40 @@ pub fn port_octets(random: &mut Random, set: PortSet) -> Content {
     let octets = set.to_be_bytes();
     let needed = 8 - set.trailing_zeros() as usize / 8;
     Content::String(octets[..needed + random.below(9 - needed)].to_vec())
+}
+
+/// The three timers with some of them changed (those that say so): anywhere in their ranges, or at about the limits that
+/// the rules set, on both sides.
+pub fn timers(random: &mut Random, mut timers: [u32; 3]) -> ([u32; 3], [bool; 3]) {
+    let mut order = [0, 1, 2];
+    random.shuffle(&mut order);
+    let mut changed = [false; 3];
+    for place in &order[..1 + random.below(3)] {
+        let [max_age, hello_time, forward_delay] = timers;
+        let limits = match place {
+            0 => [2 * (hello_time + 100), 2 * (forward_delay - 100)],
+            1 => [max_age / 2 - 100; 2],
+            _ => [max_age.div_ceil(2) + 100; 2],
+        };
+        let (Syntax::Integer(low, high) | Syntax::Unsigned(low, high)) = type_of(TIMERS[*place]).syntax else {
+            unreachable!("a timer is a number")
+        };
+        let near = random.pick(&limits) + random.pick(&[0, 1, 1, 2, 3]) - 1;
+        let anywhere = random.within(low, high);
+        timers[*place] = random.pick(&[near, near, anywhere]).clamp(low, high);
+        changed[*place] = true;
+    }
+    (timers, changed)
+}
+
+/// The same, and the three belong together.
+pub fn agreeing_timers(random: &mut Random, old: [u32; 3]) -> ([u32; 3], [bool; 3]) {
+    loop {
+        let (timers, changed) = timers(random, old);
+        if timers_agree(timers) {
+            return (timers, changed);
+        }
+    }
 }
 
 /// Right in type, length and value.

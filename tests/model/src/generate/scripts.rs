@@ -16,14 +16,15 @@ use crate::step::Step;
 type Script = fn(&mut Random, &Bridge) -> Vec<Step>;
 
 /// All scripts, and how often each comes among a hundred.
-pub const SCRIPTS: [(&str, usize, Script); 18] = [
-    ("get", 11, |random, bridge| call(random, bridge, Kind::Get, any_names)),
-    ("get-next", 11, |random, bridge| call(random, bridge, Kind::GetNext, any_names)),
+pub const SCRIPTS: [(&str, usize, Script); 19] = [
+    ("get", 10, |random, bridge| call(random, bridge, Kind::Get, any_names)),
+    ("get-next", 10, |random, bridge| call(random, bridge, Kind::GetNext, any_names)),
     ("walk of a part", 3, walk_of_a_part),
     ("whole walk", 1, whole_walk),
     ("set and gets", 8, set_and_gets),
     ("faulty set", 11, |random, bridge| call(random, bridge, Kind::Set, sets::faulty)),
-    ("crowded set", 8, |random, bridge| call(random, bridge, Kind::Set, sets::crowded)),
+    ("timers", 4, |random, bridge| call(random, bridge, Kind::Set, sets::timers_together)),
+    ("crowded set", 6, |random, bridge| call(random, bridge, Kind::Set, sets::crowded)),
     ("exchange of Egress and Forbidden", 2, exchange),
     ("rows made and removed", 9, |random, bridge| call(random, bridge, Kind::Set, sets::at_full)),
     ("long answer", 4, |random, bridge| vec![long_answer(random, bridge)]),
@@ -253,7 +254,8 @@ fn wrong_sizes(random: &mut Random, bridge: &Bridge) -> Step {
 
 /// Two set messages that name nothing in common, with room for every row that they name.
 fn pair(random: &mut Random, bridge: &Bridge) -> Step {
-    let messages: [Bindings; 5] = [sets::careful, sets::careful, sets::faulty, sets::crowded, sets::at_full];
+    let messages: [Bindings; 6] =
+        [sets::careful, sets::careful, sets::faulty, sets::timers_together, sets::crowded, sets::at_full];
     let mut first = random.pick(&messages)(random, bridge);
     let mut second = random.pick(&messages)(random, bridge);
     let named = named_by(bridge.ports, &first);

@@ -1,8 +1,10 @@
 //! Set messages: those that should be accepted, those with a seeded fault, and bindings crowded on a few rows.
 
-use super::contents::{any, port_octets, port_set, right, wrong_length, wrong_type, wrong_value};
+use super::contents::{
+    agreeing_timers, any, port_octets, port_set, right, timers, wrong_length, wrong_type, wrong_value,
+};
 use super::names::{any_name, impossible_index, object, possible_index, present_index};
-use crate::model::bridge::{Bridge, MOST_ROWS};
+use crate::model::bridge::{Bridge, MOST_ROWS, TIMERS};
 use crate::model::message::{write_request, Binding, Content, Kind, Request, LONGEST, MOST_BINDINGS};
 use crate::model::names::{type_of, Object, ObjectType, Shape, Syntax, TABLE};
 use crate::random::Random;
@@ -37,9 +39,40 @@ fn writable(random: &mut Random, wanted: fn(&ObjectType) -> bool) -> &'static Ob
 }
 
 fn setting(random: &mut Random, bridge: &Bridge) -> Vec<Binding> {
-    let entry = writable(random, ObjectType::is_setting);
+    let entry = writable(random, |entry| entry.is_setting() && !TIMERS.contains(&entry.object));
     let index = possible_index(random, bridge, entry.shape);
     vec![bind(entry.object, &index, right(random, bridge, entry))]
+}
+
+/// One, two or three timers.
+fn timer_group((timers, changed): ([u32; 3], [bool; 3])) -> Vec<Binding> {
+    let bound = (0..TIMERS.len()).filter(|place| changed[*place]);
+    bound.map(|place| bind(TIMERS[place], &[0], Content::Integer(timers[place] as i32))).collect()
+}
+
+/// Timers that may break a rule, among bindings that have no fault; now and then one of them has a fault of its own.
+pub fn timers_together(random: &mut Random, bridge: &Bridge) -> Vec<Binding> {
+    let mut group = timer_group(timers(random, bridge.timers()));
+    if random.chance(30) {
+        let entry = type_of(random.pick(&TIMERS));
+        let content = match random.below(3) {
+            0 => wrong_type(random, bridge, entry),
+            1 => wrong_value(random, bridge, entry).unwrap_or_else(|| any(random)),
+            _ => right(random, bridge, entry),
+        };
+        let index = if random.chance(30) { impossible_index(random, bridge, entry.shape) } else { vec![0] };
+        group.insert(random.below(group.len() + 1), bind(entry.object, &index, content));
+    }
+    if random.chance(50) {
+        let others: Vec<Binding> = careful(random, bridge).into_iter().filter(|binding| !is_timer(binding)).collect();
+        group.extend(others.into_iter().take(3));
+        random.shuffle(&mut group);
+    }
+    group
+}
+
+fn is_timer(binding: &Binding) -> bool {
+    TIMERS.iter().any(|timer| type_of(*timer).name(&[0]) == binding.name)
 }
 
 /// Some columns of a VLAN row whose resulting Egress and Forbidden share no port, without its status.
@@ -103,6 +136,10 @@ fn static_group(random: &mut Random, bridge: &Bridge) -> Vec<Binding> {
 /// Bindings in any order that are free of faults, as long as the tables have room.
 pub fn careful(random: &mut Random, bridge: &Bridge) -> Vec<Binding> {
     let mut bindings = Vec::new();
+    // Timers come from one group, since two that fit what stands need not fit each other.
+    if random.chance(30) {
+        bindings = timer_group(agreeing_timers(random, bridge.timers()));
+    }
     for _ in 0..random.below(10) {
         let group = match random.below(4) {
             0 => setting(random, bridge),

@@ -11,6 +11,12 @@ pub const MOST_ROWS: usize = 256;
 /// The status of a static row that a reset removes.
 pub const DELETE_ON_RESET: u32 = 4;
 
+/// The three timers that belong together (E6).
+pub const TIMERS: [Object; 3] = [Object::BridgeMaxAge, Object::BridgeHelloTime, Object::BridgeForwardDelay];
+
+/// A second, in hundredths.
+const SECOND: u32 = 100;
+
 /// Port 1 is the highest bit, as in the octets that are written and read.
 pub type PortSet = u64;
 
@@ -48,6 +54,11 @@ pub fn all_ports(ports: u32) -> PortSet {
     u64::MAX << (64 - ports)
 }
 
+/// 802.1D's two rules for timers that are in their ranges, in hundredths and in the order of `TIMERS`.
+pub fn timers_agree([max_age, hello_time, forward_delay]: [u32; 3]) -> bool {
+    2 * (forward_delay - SECOND) >= max_age && max_age >= 2 * (hello_time + SECOND)
+}
+
 impl Bridge {
     /// A fresh bridge; none where there is no such bridge.
     pub fn fresh(ports: u32, address: &[u8]) -> Option<Bridge> {
@@ -77,6 +88,11 @@ impl Bridge {
     /// How many VLAN rows are active: NumVlans, and the total that a block stores (E5).
     pub fn active_vlans(&self) -> usize {
         self.vlans.values().filter(|row| row.active).count()
+    }
+
+    /// The three timers, in the order of `TIMERS`.
+    pub fn timers(&self) -> [u32; 3] {
+        TIMERS.map(|timer| self.settings[&timer][0])
     }
 
     /// What an instance holds; none where there is no such instance.

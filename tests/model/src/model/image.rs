@@ -1,6 +1,6 @@
 //! The 32,768 octets of a block, as docs/LAYOUT.md tells.
 
-use super::bridge::{all_ports, instances, Bridge, PortSet, StaticRow, VlanRow, MOST_ROWS};
+use super::bridge::{all_ports, instances, timers_agree, Bridge, PortSet, StaticRow, VlanRow, MOST_ROWS};
 use super::names::{can_have, type_of, Object, Shape, Syntax};
 use std::collections::BTreeMap;
 
@@ -11,6 +11,7 @@ pub const VLAN_COUNT: usize = 8;
 pub const STATIC_COUNT: usize = 12;
 pub const ADDRESS: usize = 16;
 pub const VLAN_TOTAL: usize = 22;
+pub const MAX_AGE: usize = 36;
 pub const VLAN_ROWS: usize = 6196;
 pub const VLAN_ROW: usize = 60;
 pub const STATIC_ROWS: usize = 21556;
@@ -19,7 +20,7 @@ pub const STATIC_ROW: usize = 16;
 /// Where the cells of each object start, 4 octets for each instance.
 pub const CELLS: [(Object, usize); 14] = [
     (Object::StpPriority, 32),
-    (Object::BridgeMaxAge, 36),
+    (Object::BridgeMaxAge, MAX_AGE),
     (Object::BridgeHelloTime, 40),
     (Object::BridgeForwardDelay, 44),
     (Object::StpPortPriority, 48),
@@ -83,6 +84,9 @@ impl Bridge {
             vlans: vlan_rows(block, ports)?,
             statics: static_rows(block, ports)?,
         };
+        if !timers_agree(bridge.timers()) {
+            return None;
+        }
         // Octets that hold nothing must be 0, and the stored total (E5) must be that of the active rows: the one image of
         // this content shows both.
         (bridge.image() == block).then_some(bridge)

@@ -1,6 +1,8 @@
 //! A set message: each binding's first fault, and what an accepted set changes.
 
-use super::bridge::{all_ports, place, Bridge, PortSet, StaticIndex, StaticRow, VlanRow, MOST_ROWS};
+use super::bridge::{
+    all_ports, place, timers_agree, Bridge, PortSet, StaticIndex, StaticRow, VlanRow, MOST_ROWS, TIMERS,
+};
 use super::message::{Binding, Content};
 use super::names::{can_have, split, Object, ObjectType, Shape, Syntax};
 use std::collections::BTreeMap;
@@ -54,6 +56,8 @@ struct Plan {
     rows: BTreeMap<Row, RowPlan>,
     vlans_overfull: bool,
     statics_overfull: bool,
+    /// The three timers as all clean bindings together leave them break a rule (E6).
+    timers_at_odds: bool,
 }
 
 impl Bridge {
@@ -138,7 +142,16 @@ impl Bridge {
         }
         let vlans_overfull = overfull(self.vlans.len(), &rows, |row| matches!(row, Row::Vlan(_)));
         let statics_overfull = overfull(self.statics.len(), &rows, |row| matches!(row, Row::Static(_)));
-        Plan { rows, vlans_overfull, statics_overfull }
+        let timers_at_odds = !timers_agree(self.resulting_timers(clean));
+        Plan { rows, vlans_overfull, statics_overfull, timers_at_odds }
+    }
+
+    /// The timers as all clean bindings together leave them.
+    fn resulting_timers(&self, clean: &[&Write]) -> [u32; 3] {
+        TIMERS.map(|timer| {
+            let written = clean.iter().find(|write| write.object == timer);
+            written.map_or(self.settings[&timer][0], |write| write.value.number())
+        })
     }
 
     fn present(&self, row: Row) -> bool {
@@ -269,6 +282,9 @@ impl RowPlan {
 impl Plan {
     /// The faults 18, 12 and 13 of a clean binding.
     fn fault_of(&self, write: &Write) -> Option<Fault> {
+        if TIMERS.contains(&write.object) {
+            return self.timers_at_odds.then_some(INCONSISTENT_VALUE);
+        }
         let row = write.row?;
         let plan = &self.rows[&row];
         if is_status(write.object) {

@@ -1,11 +1,12 @@
 //! The terms of demand 3: what a set message names, and which two messages may be played in either order.
 
-use super::bridge::{Bridge, MOST_ROWS};
+use super::bridge::{Bridge, MOST_ROWS, TIMERS};
 use super::message::Binding;
-use super::names::{can_have, split, Object, Shape};
+use super::names::{can_have, split, type_of, Object, Shape};
 use std::collections::BTreeSet;
 
-/// A row, by its table (the entry that its columns stand under) and its index; or a scalar, by prefix and last 0.
+/// A row, by its table (the entry that its columns stand under) and its index; or a scalar, by prefix and last 0. The
+/// three timers are one scalar (E6), named by the prefix of the first.
 #[derive(Clone, PartialEq, Eq, PartialOrd, Ord, Debug)]
 pub struct Named {
     pub table: &'static [u32],
@@ -30,6 +31,7 @@ fn named(ports: u32, name: &[u32]) -> Option<Named> {
         return None;
     }
     let table = match found.shape {
+        Shape::Scalar if TIMERS.contains(&found.object) => type_of(TIMERS[0]).prefix,
         Shape::Scalar => found.prefix,
         _ => &found.prefix[..found.prefix.len() - 1],
     };
