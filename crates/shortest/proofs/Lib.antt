@@ -1,0 +1,4 @@
+pub mod InverseLaws
+pub mod LeastLaws
+pub mod ShownLaws
+pub mod Theorems
