@@ -2,3 +2,4 @@ pub mod InverseLaws
 pub mod LeastLaws
 pub mod ShownLaws
 pub mod Theorems
+pub mod WrittenLaws

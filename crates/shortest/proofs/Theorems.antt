@@ -34,16 +34,16 @@ use Rattle.shortest.proofs.ShownLaws.{read-least}
 -- ## A message in its parts
 
 -- m is the message of these parts, and the reading may take it
-record Formed (answers : Bool) (m : List ℕ) (kind id status index : ℕ) (bs : List Bound) : Type 0 where
-  is : m ≡ messageOctets kind id status index bs
-  taken : kindAllowed (takesOf answers) kind ≡ true
-  quiet : statusAllowed kind status index ≡ true
-  small : id < 2 ^ 32
-  few : length bs ≤ 16
-  carried : form.AllCarried kind bs
+pub record Formed (answers : Bool) (m : List ℕ) (kind id status index : ℕ) (bs : List Bound) : Type 0 where
+  pub is : m ≡ messageOctets kind id status index bs
+  pub taken : kindAllowed (takesOf answers) kind ≡ true
+  pub quiet : statusAllowed kind status index ≡ true
+  pub small : id < 2 ^ 32
+  pub few : length bs ≤ 16
+  pub carried : form.AllCarried kind bs
 
 -- the parts of a message are its own, so there is one shortest form of it
-same-octets : (answers : Bool) (m x : List ℕ) {kind id status index kind′ id′ status′ index′ : ℕ} {bs bs′ : List Bound} → Formed answers m kind id status index bs
+pub same-octets : (answers : Bool) (m x : List ℕ) {kind id status index kind′ id′ status′ index′ : ℕ} {bs bs′ : List Bound} → Formed answers m kind id status index bs
     → Formed answers m kind′ id′ status′ index′ bs′ → anyOctets kind x id status index bs ≡ anyOctets kind′ x id′ status′ index′ bs′
 same-octets answers m x {kind} {id} {status} {index} {kind′} {id′} {status′} {index′} {bs} {bs′} v w =
     let (rs, p, q) = any-reads-back (takesOf answers) kind id status index bs (v .taken) (v .quiet) (v .small) (v .few) (v .carried) in
@@ -106,15 +106,15 @@ carried-by kind s (b ∷ bs) w =
 -- ## The shortest form of what was read
 
 -- what a datagram that was read comes to: the message in its parts, and their shortest form, which is a datagram of the same message and community
-record Canonical (answers : Bool) (m x d : List ℕ) : Type 0 where
-  kind : ℕ
-  id : ℕ
-  status : ℕ
-  index : ℕ
-  bs : List Bound
-  formed : Formed answers m kind id status index bs
-  least : Least d (anyOctets kind x id status index bs)
-  again : DatagramOf answers m x (anyOctets kind x id status index bs)
+pub record Canonical (answers : Bool) (m x d : List ℕ) : Type 0 where
+  pub kind : ℕ
+  pub id : ℕ
+  pub status : ℕ
+  pub index : ℕ
+  pub bs : List Bound
+  pub formed : Formed answers m kind id status index bs
+  pub least : Least d (anyOctets kind x id status index bs)
+  pub again : DatagramOf answers m x (anyOctets kind x id status index bs)
 
 -- what is handed over was read
 abbrev HandedOver : Bool → (room d : List ℕ) → Given → Type 0
@@ -152,7 +152,7 @@ handed-again : (answers : Bool) (room m x d : List ℕ) (kind id status index at
 handed-again answers room m x d kind id status index at rs long short fits e own =
     sym (call-read answers room d long short e) ∙ ap (handed room at (length x)) own ∙ rw (le-leb (length m) mostOctets fits)
 
-canonical : (answers : Bool) (m x d : List ℕ) → DatagramOf answers m x d → Canonical answers m x d
+pub canonical : (answers : Bool) (m x d : List ℕ) → DatagramOf answers m x d → Canonical answers m x d
 canonical answers m x d w =
     let room : List ℕ = replicate {A = ℕ} mostOctets 0 in
     let (at, r, c) = w .read room (omega (arith, length-replicate {A = ℕ} mostOctets 0)) in
