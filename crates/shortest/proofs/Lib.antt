@@ -3,3 +3,4 @@ pub mod LeastLaws
 pub mod ShownLaws
 pub mod Theorems
 pub mod WrittenLaws
+pub mod AgainLaws

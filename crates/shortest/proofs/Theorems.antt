@@ -113,6 +113,9 @@ pub record Canonical (answers : Bool) (m x d : List ℕ) : Type 0 where
   pub index : ℕ
   pub bs : List Bound
   pub formed : Formed answers m kind id status index bs
+  pub carried : AllCarriedBy kind bs
+  pub short : length d ≤ mostOctets
+  pub fits : length m ≤ mostOctets
   pub least : Least d (anyOctets kind x id status index bs)
   pub again : DatagramOf answers m x (anyOctets kind x id status index bs)
 
@@ -174,6 +177,9 @@ canonical answers m x d w =
           index = index;
           bs = bs;
           formed = record { is = own; taken = t .3; quiet = t .4; small = t .5 (w .octets); few = few; carried = all-carried kind d rs (t .1) };
+          carried = carried-by kind d rs (t .1);
+          short = short;
+          fits = fits;
           least = l;
           again = record {
             octets = l .octets;
@@ -186,7 +192,7 @@ canonical answers m x d w =
           };
         }
 
-shortest-is : (answers : Bool) (m x d : List ℕ) → Shortest answers m x d → (c : Canonical answers m x d) → d ≡ anyOctets (c .kind) x (c .id) (c .status) (c .index) (c .bs)
+pub shortest-is : (answers : Bool) (m x d : List ℕ) → Shortest answers m x d → (c : Canonical answers m x d) → d ≡ anyOctets (c .kind) x (c .id) (c .status) (c .index) (c .bs)
 shortest-is answers m x d w c = c .least .same (w .least (anyOctets (c .kind) x (c .id) (c .status) (c .index) (c .bs)) (c .again))
 
 pub shortest-equal : ShortestEqual

@@ -3,11 +3,16 @@ use Prim.Native.Nat.{ℕ, _≤_, _<_}
 use mathlib.Core.Path.{_≡_}
 use mathlib.Core.Bool.{Bool, true}
 use mathlib.Core.List.{List}
+use lib.Dec.{eqb}
 use lib.ListN.{length, getD, take}
 use Rattle.octets.specs.Parts.{part, patch}
 use Rattle.message.specs.Answer.{mostOctets}
 use Rattle.datagram.specs.Reading.{fromDatagram}
 use Rattle.datagram.specs.Writing.{toDatagram}
+
+-- the message's kind is that of a response
+abbrev pub isResponse : List ℕ → Bool
+isResponse m = eqb (getD m 3 0) 2
 
 -- d is a datagram of the message m and the community x: octets from which the reading hands over m (of some octets: a refusal hands over none), and x stands at the community's place.
 -- `answers` is the reading: the one of requests, or the one that takes responses too.
@@ -37,3 +42,9 @@ abbrev pub WritesShortest : Type 0
 WritesShortest =
     (room x m : List ℕ) → ((i : ℕ) → getD m i 0 < 256) → ((i : ℕ) → getD x i 0 < 256) → 0 < toDatagram room x m .count
     → Shortest true m x (take (toDatagram room x m .count) (toDatagram room x m .room))
+
+-- So a response that was read from a shortest datagram is written as that datagram, octet by octet, into a room that is long enough.
+abbrev pub ShortestIsWritten : Type 0
+ShortestIsWritten =
+    (room m x d : List ℕ) → mostOctets ≤ length room → isResponse m ≡ true → Shortest true m x d
+    → toDatagram room x m ≡ record { number = 0; count = length d; offset = 0; room = patch room 0 d }
