@@ -1,5 +1,6 @@
 pub mod InverseLaws
 pub mod LeastLaws
+pub mod RefusalLaws
 pub mod ShownLaws
 pub mod Theorems
 pub mod WrittenLaws

@@ -29,6 +29,7 @@ use Rattle.datagram.proofs.ReadableLaws.{all-carried, length-bound}
 use Rattle.shortest.specs.Theorems.{DatagramOf, Shortest, ShortestEqual, ShortestExists}
 use Rattle.shortest.proofs.InverseLaws.{below-fits}
 use Rattle.shortest.proofs.LeastLaws.{Least, octets-be, octets-none}
+use Rattle.shortest.proofs.RefusalLaws.{ReadingSure, reading-sure}
 use Rattle.shortest.proofs.ShownLaws.{read-least}
 
 -- ## A message in its parts
@@ -122,27 +123,28 @@ pub record Canonical (answers : Bool) (m x d : List ℕ) : Type 0 where
 -- what is handed over was read
 abbrev HandedOver : Bool → (room d : List ℕ) → Given → Type 0
 HandedOver answers room d g =
-    0 < g .count
+    g .number ≡ 0
     → (kind : ℕ) × (id : ℕ) × (status : ℕ) × (index : ℕ) × (bs : List Binding)
     × (readDatagram answers d ≡ message kind id status index (g .community) (g .size) bs) × (length d ≤ mostOctets) × (g .count ≤ mostOctets)
     × (g .count ≡ length (messageOctets kind id status index (map (boundAt d) bs))) × (g .room ≡ patch room 0 (messageOctets kind id status index (map (boundAt d) bs)))
 
-nothing : {A : Type 0} → 0 < 0 → A
-nothing h = absurd (omega (arith, h))
+nothing : {A : Type 0} (n : ℕ) → 0 < n → n ≡ 0 → A
+nothing n h e = absurd (omega (arith, h, e))
 
 handed-over : (answers : Bool) (room d : List ℕ) → HandedOver answers room d (fromDatagram answers room d)
 unfolding fromDatagram givenBy
 handed-over answers room d =
-    cond-cases (HandedOver answers room d) (ltb (length room) mostOctets) (λ t h. nothing h)
-    (λ t. cond-cases (HandedOver answers room d) (ltb mostOctets (length d)) (λ u h. nothing h) (λ u. read (ltb-false mostOctets (length d) u) (readDatagram answers d) refl))
+    cond-cases (HandedOver answers room d) (ltb (length room) mostOctets) (λ t h. nothing 1 (omega arith) h)
+    (λ t. cond-cases (HandedOver answers room d) (ltb mostOctets (length d)) (λ u h. nothing 20 (omega arith) h)
+    (λ u. read (ltb-false mostOctets (length d) u) (readDatagram answers d) refl (reading-sure d answers)))
   where
-    read : length d ≤ mostOctets → (x : Reading) → readDatagram answers d ≡ x → HandedOver answers room d (givenBy room d x)
-    read l (refused n) e = λ h. nothing h
-    read l (message kind id status index community size bs) e =
+    read : length d ≤ mostOctets → (x : Reading) → readDatagram answers d ≡ x → ReadingSure x → HandedOver answers room d (givenBy room d x)
+    read l (refused n) e w = λ h. nothing n w h
+    read l (message kind id status index community size bs) e w =
         let octets : List ℕ = messageOctets kind id status index (map (boundAt d) bs) in
         cond-cases (HandedOver answers room d) (leb (length octets) mostOctets)
         (λ t h. (kind, id, status, index, bs, e, l, leb-true (length octets) mostOctets t, refl, refl))
-        (λ t h. nothing h)
+        (λ t h. nothing 20 (omega arith) h)
 
 -- octets in a room, read from it
 same-put : (room a b : List ℕ) → length a ≡ length b → patch room 0 a ≡ patch room 0 b → a ≡ b
@@ -159,7 +161,7 @@ pub canonical : (answers : Bool) (m x d : List ℕ) → DatagramOf answers m x d
 canonical answers m x d w =
     let room : List ℕ = replicate {A = ℕ} mostOctets 0 in
     let (at, r, c) = w .read room (omega (arith, length-replicate {A = ℕ} mostOctets 0)) in
-    let (kind, id, status, index, rs, e, short, fits, n, p) = subst (HandedOver answers room d) r (handed-over answers room d) (w .some) in
+    let (kind, id, status, index, rs, e, short, fits, n, p) = subst (HandedOver answers room d) r (handed-over answers room d) refl in
     made kind id status index at rs e c short fits (same-put room m (messageOctets kind id status index (map (boundAt d) rs)) n p) (subst (ReadingTells answers d) e (reading-tells answers d))
   where
     made : (kind id status index at : ℕ) (rs : List Binding) → readDatagram answers d ≡ message kind id status index at (length x) rs → part d at (length x) ≡ x → length d ≤ mostOctets → length m ≤ mostOctets
@@ -183,7 +185,6 @@ canonical answers m x d w =
           least = l;
           again = record {
             octets = l .octets;
-            some = w .some;
             read = λ room long. (
               b .0,
               handed-again answers room m x ys kind id status index (b .0) (b .1) long (omega (arith, l .shorter)) fits (b .2) (ap (messageOctets kind id status index) (b .3) ∙ sym own),

@@ -18,7 +18,6 @@ use Rattle.message.specs.Answer.{Bound, headOctets, messageOctets, mostOctets}
 use Rattle.message.specs.Theorems as form
 use Rattle.message.specs.Theorems.{boundAt}
 use Rattle.message.proofs.FormLaws.{cond-cases}
-use Rattle.message.proofs.AnswerLaws.{length-message}
 use Rattle.datagram.specs.Ber.{fewest}
 use Rattle.datagram.specs.Reading.{fromDatagram}
 use Rattle.datagram.specs.Writing.{lengthForm, headerForm, berOctets, shortened, goingOn, base128, numbersOctets, firstOne, nameBer, berTag, contentBer, bindingBer, bindingsBer, responseBer, datagramOctets, readResponse, Sent, sentBy, toDatagram}
@@ -179,7 +178,6 @@ writes-shortest room x m o ox h =
     record {
       taken = record {
         octets = octets-datagram x id status index bs ox st ix carried;
-        some = omega (arith, ap length own, length-message 2 id status index bs);
         read = read-again room x m kind id status index rs o long short e most d is;
       };
       least = λ c w.

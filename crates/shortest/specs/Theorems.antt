@@ -14,11 +14,10 @@ use Rattle.datagram.specs.Writing.{toDatagram}
 abbrev pub isResponse : List ℕ → Bool
 isResponse m = eqb (getD m 3 0) 2
 
--- d is a datagram of the message m and the community x: octets from which the reading hands over m (of some octets: a refusal hands over none), and x stands at the community's place.
+-- d is a datagram of the message m and the community x: octets from which the reading hands over m, into any room that is long enough, and x stands at the community's place.
 -- `answers` is the reading: the one of requests, or the one that takes responses too.
 pub record DatagramOf (answers : Bool) (m x d : List ℕ) : Type 0 where
   pub octets : (i : ℕ) → getD d i 0 < 256
-  pub some : 0 < length m
   pub read : (room : List ℕ) → mostOctets ≤ length room
       → (at : ℕ)
       × (fromDatagram answers room d ≡ record { number = 0; count = length m; community = at; size = length x; room = patch room 0 m })
