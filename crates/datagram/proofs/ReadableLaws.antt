@@ -27,7 +27,7 @@ use Rattle.datagram.proofs.ReadLaws.{AllWithin, ReadingTells, reading-t
 
 -- ## A content that was read has a length that its tag allows
 
-judged-both : (short fits : Bool) → numberJudged short fits ≡ 0 → (short ≡ true) × (fits ≡ true)
+pub judged-both : (short fits : Bool) → numberJudged short fits ≡ 0 → (short ≡ true) × (fits ≡ true)
 judged-both true true e = (refl, refl)
 judged-both true false e = absurd (omega arith)
 judged-both false fits e = absurd (omega arith)

@@ -7,9 +7,7 @@ use native.Mathlib.Omega.{arith}
 use borrow.Author.Tests.{le-leb, le-ltb, eqb-true}
 use lib.Dec.{leb, ltb, eqb}
 use lib.ListN.{length, getD, take, drop, length-take}
-use Rattle.octets.specs.Numbers.{beAt, beOctets}
-use Rattle.octets.specs.Parts.{part}
-use Rattle.octets.proofs.NumberLaws.{beAt-same}
+use Rattle.octets.specs.Numbers.{beOctets}
 use Rattle.message.specs.declared.form.Place.the-variants.{Bind, Name}
 use Rattle.message.specs.declared.form.Checked.{Checked}
 use Rattle.message.specs.declared.request.Binding.{Binding}
@@ -20,13 +18,12 @@ use Rattle.message.specs.Request.{answersToo, kindAllowed, checkedThen, headOf,
 use Rattle.message.specs.Answer.{Bound, headOctets, messageOctets, mostOctets}
 use Rattle.message.specs.Theorems.{boundAt}
 use Rattle.message.proofs.FormLaws.{clash, cond-cases}
-use Rattle.message.proofs.ReadBack.{any-reads-back}
 use Rattle.datagram.specs.Writing.{nameWritten, responseIn, responseAt, responsesFrom, responseHead, readResponse, datagramOctets, sent, sentBy, toDatagram}
-use Rattle.datagram.proofs.BerLaws.{part-at}
 use Rattle.datagram.proofs.SendLaws.{checked-cases}
+use Rattle.datagram.proofs.SentBack.{written-own}
 use Rattle.datagram.proofs.ReadBack.{anyOctets, any-response, AllCarriedBy}
 use Rattle.shortest.specs.Theorems.{isResponse, Shortest, ShortestIsWritten}
-use Rattle.shortest.proofs.Theorems.{Formed, Canonical, canonical, shortest-is}
+use Rattle.shortest.proofs.Theorems.{Formed, formed-reads, Canonical, canonical, shortest-is}
 
 module _ (s : List ℕ) where
   -- ## One binding
@@ -120,32 +117,24 @@ module _ (s : List ℕ) where
       go (Head.Refused r) q = clash (cc)
       go (Head.Found k i t x) q = ends k i t x (bindingsFrom k s 16 16) refl q
 
-  -- a name that has a counterpart, where it stands
-  written-at : (p n : ℕ) → 8 ≤ length (part s p n) → nameWritten (part s p n) 0 ≡ true → nameWritten s p ≡ true
-  unfolding nameWritten
-  written-at p n h e =
-      let l : 8 ≤ n = omega (arith, length-take n (drop p s)) in
-      let a : beAt (part s p n) 0 4 ≡ beAt s p 4 = beAt-same (part s p n) s 0 p 4 (λ i j. ap (λ (m : ℕ). getD (part s p n) m 0) (omega arith) ∙ part-at s p n i (omega arith)) in
-      let b : beAt (part s p n) (0 + 4) 4 ≡ beAt s (p + 4) 4 = beAt-same (part s p n) s (0 + 4) (p + 4) 4 (λ i j. part-at s p n (0 + 4 + i) (omega arith) ∙ ap (λ (m : ℕ). getD s m 0) (omega arith)) in
-      rw (a, b) at e
-
   all-written : (rs : List Binding) → AllCarriedBy 2 (map (boundAt s) rs) → AllWritten rs
   all-written [] w = tt
-  all-written (b ∷ bs) w = (written-at (b .name) (b .size) (w .0 .carried .long) (w .0 .written), all-written bs (w .1))
+  all-written (b ∷ bs) w =
+      let long : 8 ≤ b .size = omega (arith, w .0 .carried .long, length-take (b .size) (drop (b .name) s)) in
+      (sym (written-own s (b .name) (b .size) long) ∙ w .0 .written, all-written bs (w .1))
 
 kind-at : (m : List ℕ) (kind id status index : ℕ) (bs : List Bound) → m ≡ messageOctets kind id status index bs → getD m 3 0 ≡ kind
 unfolding messageOctets headOctets beOctets
 kind-at m kind id status index bs e = ap (λ (u : List ℕ). getD u 3 0) e
 
 -- what writing gives of a response in its parts
-response-written : (room x m : List ℕ) (id status index : ℕ) (bs : List Bound) → Formed true m 2 id status index bs → AllCarriedBy 2 bs → mostOctets ≤ length room → length m ≤ mostOctets
+response-written : (room x m : List ℕ) (id status index : ℕ) (bs : List Bound) → Formed true m 2 id status index bs → mostOctets ≤ length room → length m ≤ mostOctets
     → toDatagram room x m ≡ sent room (anyOctets 2 x id status index bs)
 unfolding toDatagram sentBy
-response-written room x m id status index bs f w long fits =
-    let (rs, p, q) = any-reads-back answersToo 2 id status index bs (f .taken) (f .quiet) (f .small) (f .few) (f .carried) in
-    let own : map (boundAt m) rs ≡ bs = ap (λ (u : List ℕ). map (boundAt u) rs) (f .is) ∙ q in
+response-written room x m id status index bs f long fits =
+    let (rs, p, own) = formed-reads f in
     let r : readResponse m ≡ message 2 id status index rs =
-    response-same m id status index rs (kind-at m 2 id status index bs (f .is)) (ap (readMessage answersToo) (f .is) ∙ p) (all-written m rs (subst (AllCarriedBy 2) (sym own) w)) in
+    response-same m id status index rs (kind-at m 2 id status index bs (f .is)) p (all-written m rs (subst (AllCarriedBy 2) (sym own) (f .carried))) in
     rw (le-ltb (length room) mostOctets long, le-ltb mostOctets (length m) fits, r)
     (ap (λ (l : List Bound). sent room (datagramOctets x id status index l)) own ∙ ap (sent room) (sym (any-response x id status index bs)))
 
@@ -153,10 +142,10 @@ pub shortest-is-written : ShortestIsWritten
 shortest-is-written room m x d long two w =
     let c : Canonical true m x d = canonical true m x d (w .taken) in
     let k : c .kind ≡ 2 = sym (kind-at m (c .kind) (c .id) (c .status) (c .index) (c .bs) (c .formed .is)) ∙ eqb-true (getD m 3 0) 2 two in
-    written (c .kind) (c .id) (c .status) (c .index) (c .bs) k (c .formed) (c .carried) (c .fits) (shortest-is true m x d w c)
+    written (c .kind) (c .id) (c .status) (c .index) (c .bs) k (c .formed) (c .fits) (shortest-is true m x d w c)
     ∙ rw (le-leb (length d) mostOctets (c .short))
   where
-    written : (kind id status index : ℕ) (bs : List Bound) → kind ≡ 2 → Formed true m kind id status index bs → AllCarriedBy kind bs → length m ≤ mostOctets → d ≡ anyOctets kind x id status index bs
+    written : (kind id status index : ℕ) (bs : List Bound) → kind ≡ 2 → Formed true m kind id status index bs → length m ≤ mostOctets → d ≡ anyOctets kind x id status index bs
         → toDatagram room x m ≡ sent room d
-    written kind id status index bs k f v fits is =
-        response-written room x m id status index bs (rw k at f) (rw k at v) long fits ∙ ap (sent room) (sym (rw k at is))
+    written kind id status index bs k f fits is =
+        response-written room x m id status index bs (rw k at f) long fits ∙ ap (sent room) (sym (rw k at is))

@@ -21,9 +21,10 @@ use Rattle.message.proofs.FormLaws.{clash}
 use Rattle.datagram.specs.Ber.{fewest, sign, five, four, integer32, unsigned32, unsigned8, isNumber, endsFrom, nameWhole, numbersFrom, firstOf, firstTwo, subIds, allBelow, nameFits, contentTag, numberJudged, contentJudged, contentOctets}
 use Rattle.datagram.specs.Reading.{statusJudged}
 use Rattle.datagram.specs.Writing.{shortened, goingOn, base128, numbersOctets, firstOne, nameBer, berTag, contentBer}
-use Rattle.datagram.proofs.BackLaws.{pick}
+use Rattle.datagram.proofs.BackLaws.{pick, div-small, Short, fits-short}
 use Rattle.datagram.proofs.NameLaws.{first-small}
-use Rattle.datagram.proofs.ReadLaws.{octets-append, octets-replicate, octets-drop}
+use Rattle.datagram.proofs.ReadLaws.{octets-four}
+use Rattle.datagram.proofs.ReadableLaws.{judged-both}
 use Rattle.datagram.proofs.PlaceLaws.{length-five, name-below}
 use Rattle.datagram.proofs.WriteLaws.{going-none}
 
@@ -92,17 +93,6 @@ module _ (xs : List ℕ) (e : fewest xs ≡ true) where
       first [] h e = absurd (omega arith)
       first (y ∷ l) h e = ap (λ (j : ℕ). j ∷ l) (sym e)
 
--- the four octets of a number are octets
-pub octets-four : (xs : List ℕ) → Octets xs → Octets (four xs)
-unfolding five
-octets-four xs o =
-    octets-drop 1 (replicate (5 - length xs) (sign xs) ++ xs)
-    (octets-append (replicate (5 - length xs) (sign xs)) xs (octets-replicate (5 - length xs) (sign xs) (small (leb 128 (getD xs 0 0)))) o)
-  where
-    small : (t : Bool) → cond t 255 0 < 256
-    small true = omega arith
-    small false = omega arith
-
 -- an id
 pub id-inverse : (xs : List ℕ) → Octets xs → fewest xs ≡ true → integer32 xs ≡ true → shortened (beOctets 4 (beAt (four xs) 0 4)) ≡ xs
 unfolding integer32
@@ -155,14 +145,6 @@ going-more zero m h =
 going-more (suc k) m h =
     let d : m / 128 < 128 ^ k = div-small m (128 ^ k) (rw pow-suc at h) in
     ap (λ (u : List ℕ). cond (eqb m 0) [] (u ++ ((128 + m % 128) ∷ []))) (going-more k (m / 128) d)
-  where
-    div-small : (m c : ℕ) → m < c * 128 → m / 128 < c
-    div-small m c h = omega arith
-
--- every number has at most five octets
-abbrev Short : List ℕ → Type 0
-Short [] = Unit {0}
-Short (n ∷ ns) = (n < 2 ^ 35) × Short ns
 
 -- a number that goes on is small so far
 going-small : (acc : ℕ) (xs : List ℕ) → endsFrom false xs ≡ true → Short (numbersFrom acc xs) → acc < 2 ^ 28
@@ -229,10 +211,6 @@ below-fits (n ∷ ns) e =
     let (l, w) = both (ltb n (2 ^ 32)) (allBelow (2 ^ 32) ns) e in
     (ltb-true n (2 ^ 32) l, below-fits ns w)
 
-fits-short : (ns : List ℕ) → Fits ns → Short ns
-fits-short [] w = tt
-fits-short (n ∷ ns) w = (omega (arith, w .0), fits-short ns (w .1))
-
 first-inverse : (ns : List ℕ) → Fits (firstTwo ns) → (firstOne (firstTwo ns) ≡ ns) × Short ns
 first-inverse [] w = (refl, tt)
 first-inverse (n ∷ ns) w =
@@ -254,11 +232,6 @@ name-inverse xs o w f =
 
 -- ## Contents
 
-number-both : (short fits : Bool) → numberJudged short fits ≡ 0 → (short ≡ true) × (fits ≡ true)
-number-both true true e = (refl, refl)
-number-both true false e = absurd (omega arith)
-number-both false fits e = absurd (omega arith)
-
 written-number : (xs : List ℕ) → fewest xs ≡ true → cond (eqb (length xs) 0) [] (four xs) ≡ four xs
 written-number xs e = rw (ne-eqb (length xs) 0 (λ z. omega (arith, some-octets xs e)))
 
@@ -272,13 +245,13 @@ unfolding contentJudged contentBer contentOctets integer32
 content-inverse tag xs =
     pick P 0x22 tag (λ e. refl)
     (λ n2. pick P 0x21 tag
-    (λ e. let (f, i) = number-both (fewest xs) (leb (length xs) 4) e in
+    (λ e. let (f, i) = judged-both (fewest xs) (leb (length xs) 4) e in
     ap shortened (written-number xs f) ∙ integer-inverse xs f (leb-true (length xs) 4 i))
     (λ n1. pick P 0x23 tag
-    (λ e. let (f, u) = number-both (fewest xs) (unsigned32 xs) e in
+    (λ e. let (f, u) = judged-both (fewest xs) (unsigned32 xs) e in
     ap (λ (l : List ℕ). shortened (0 ∷ l)) (written-number xs f) ∙ unsigned-inverse xs f u)
     (λ n3. pick P 0x24 tag
-    (λ e. let (f, u) = number-both (fewest xs) (unsigned32 xs) e in
+    (λ e. let (f, u) = judged-both (fewest xs) (unsigned32 xs) e in
     ap (λ (l : List ℕ). shortened (0 ∷ l)) (written-number xs f) ∙ unsigned-inverse xs f u)
     (λ n4 e. rw (ne-eqb tag 0x21 n1, ne-eqb tag 0x22 n2, ne-eqb tag 0x23 n3, ne-eqb tag 0x24 n4)
     (empty-content (eqb (length xs) 0) xs refl (rw (ne-eqb tag 0x21 n1, ne-eqb tag 0x22 n2, ne-eqb tag 0x23 n3, ne-eqb tag 0x24 n4) at e))))))

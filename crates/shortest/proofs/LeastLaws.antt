@@ -18,7 +18,7 @@ use Rattle.message.specs.declared.form.Field.the-variants.{Cut, Whole}
 use Rattle.datagram.specs.Ber.{longForm, lengthOctets, lengthSaid, wholeIf, fieldAt}
 use Rattle.datagram.specs.Writing.{lengthForm, headerForm, berOctets}
 use Rattle.datagram.proofs.BerLaws.{part-length, said-long}
-use Rattle.datagram.proofs.ReadLaws.{octets-append, octets-take, octets-drop}
+use Rattle.datagram.proofs.ReadLaws.{octets-append, octets-part}
 
 -- ys is the shortest that says what xs says
 pub record Least (xs ys : List ℕ) : Type 0 where
@@ -231,7 +231,7 @@ module _ (s : List ℕ) (o : Octets s) where
       record {
         before = omega arith;
         within = h;
-        least = subst (λ (j : ℕ). Least (part s at j) (part s at n)) (sym k) (least-same (part s at n) (octets-take n (drop at s) (octets-drop at s o)));
+        least = subst (λ (j : ℕ). Least (part s at j) (part s at n)) (sym k) (least-same (part s at n) (octets-part s at n o));
       }
 
   part-split : (a b c : ℕ) → a ≤ b → b ≤ c → part s a (b - a) ++ part s b (c - b) ≡ part s a (c - a)

@@ -29,9 +29,8 @@ use Rattle.datagram.specs.Ber.{fieldAt, fieldThen, foundThen, partAt, numberAt,
 use Rattle.datagram.specs.Reading.{pduTaken, pduIn, communityIn, versionIn, openingOf, statusJudged, statusAt, lastAt, listIn, indexIn, statusIn, headIn, contentIn, nameIn, bindingAt, Bindings, ended, all, prepend, stepThen, bindingsFrom, wholeOf, openingThen, headThen, Reading, refused, message, pduOf, readDatagram, boundAt}
 use Rattle.datagram.specs.Writing.{shortened, berOctets, nameBer, berTag, contentBer, bindingBer, bindingsBer}
 use Rattle.datagram.proofs.BerLaws.{part-at, part-length, field-told, part-told, number-told}
-use Rattle.datagram.proofs.ReadLaws.{found-cases, field-cases, taken-above, HeadTells, head-tells}
+use Rattle.datagram.proofs.ReadLaws.{found-cases, field-cases, taken-above, HeadTells, head-tells, octets-part}
 use Rattle.datagram.proofs.ReadBack.{anyOctets}
-use Rattle.datagram.proofs.SentBack.{octets-part}
 use Rattle.shortest.proofs.InverseLaws.{some-octets, id-inverse, status-inverse, name-inverse, content-inverse, tag-inverse}
 use Rattle.shortest.proofs.LeastLaws.{Least, Shown, shown-part, shown-append, shown-none, shown-field}
 

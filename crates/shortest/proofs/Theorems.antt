@@ -41,23 +41,32 @@ pub record Formed (answers : Bool) (m : List ℕ) (kind id status index : ℕ) (
   pub quiet : statusAllowed kind status index ≡ true
   pub small : id < 2 ^ 32
   pub few : length bs ≤ 16
-  pub carried : form.AllCarried kind bs
+  pub carried : AllCarriedBy kind bs
+
+form-carried : (kind : ℕ) (bs : List Bound) → AllCarriedBy kind bs → form.AllCarried kind bs
+form-carried kind [] w = tt
+form-carried kind (b ∷ bs) w = (w .0 .carried, form-carried kind bs (w .1))
+
+-- what the message form reads of it
+pub formed-reads : {answers : Bool} {m : List ℕ} {kind id status index : ℕ} {bs : List Bound} → Formed answers m kind id status index bs
+    → (rs : List Binding) × (request.readMessage (takesOf answers) m ≡ request.message kind id status index rs) × (map (form.boundAt m) rs ≡ bs)
+formed-reads {answers} {m} {kind} {id} {status} {index} {bs} w =
+    let (rs, p, q) = any-reads-back (takesOf answers) kind id status index bs (w .taken) (w .quiet) (w .small) (w .few) (form-carried kind bs (w .carried)) in
+    (rs, ap (request.readMessage (takesOf answers)) (w .is) ∙ p, ap (λ (u : List ℕ). map (form.boundAt u) rs) (w .is) ∙ q)
 
 -- the parts of a message are its own, so there is one shortest form of it
 pub same-octets : (answers : Bool) (m x : List ℕ) {kind id status index kind′ id′ status′ index′ : ℕ} {bs bs′ : List Bound} → Formed answers m kind id status index bs
     → Formed answers m kind′ id′ status′ index′ bs′ → anyOctets kind x id status index bs ≡ anyOctets kind′ x id′ status′ index′ bs′
 same-octets answers m x {kind} {id} {status} {index} {kind′} {id′} {status′} {index′} {bs} {bs′} v w =
-    let (rs, p, q) = any-reads-back (takesOf answers) kind id status index bs (v .taken) (v .quiet) (v .small) (v .few) (v .carried) in
-    let (rs′, p′, q′) = any-reads-back (takesOf answers) kind′ id′ status′ index′ bs′ (w .taken) (w .quiet) (w .small) (w .few) (w .carried) in
-    let e : request.message kind id status index rs ≡ request.message kind′ id′ status′ index′ rs′ =
-    sym p ∙ ap (request.readMessage (takesOf answers)) (sym (v .is) ∙ w .is) ∙ p′ in
+    let (rs, p, q) = formed-reads v in
+    let (rs′, p′, q′) = formed-reads w in
+    let e : request.message kind id status index rs ≡ request.message kind′ id′ status′ index′ rs′ = sym p ∙ p′ in
     let a : kind ≡ kind′ = cc in
     let b : id ≡ id′ = cc in
     let c : status ≡ status′ = cc in
     let d : index ≡ index′ = cc in
     let r : rs ≡ rs′ = cc in
-    let l : bs ≡ bs′ =
-    sym q ∙ ap (λ (u : List ℕ). map (form.boundAt u) rs) (sym (v .is) ∙ w .is) ∙ ap (map (form.boundAt (messageOctets kind′ id′ status′ index′ bs′))) r ∙ q′ in
+    let l : bs ≡ bs′ = sym q ∙ ap (map (form.boundAt m)) r ∙ q′ in
     rw (a, b, c, d, l)
 
 -- ## A name that was read may be written
@@ -114,7 +123,6 @@ pub record Canonical (answers : Bool) (m x d : List ℕ) : Type 0 where
   pub index : ℕ
   pub bs : List Bound
   pub formed : Formed answers m kind id status index bs
-  pub carried : AllCarriedBy kind bs
   pub short : length d ≤ mostOctets
   pub fits : length m ≤ mostOctets
   pub least : Least d (anyOctets kind x id status index bs)
@@ -178,8 +186,7 @@ canonical answers m x d w =
           status = status;
           index = index;
           bs = bs;
-          formed = record { is = own; taken = t .3; quiet = t .4; small = t .5 (w .octets); few = few; carried = all-carried kind d rs (t .1) };
-          carried = carried-by kind d rs (t .1);
+          formed = record { is = own; taken = t .3; quiet = t .4; small = t .5 (w .octets); few = few; carried = carried-by kind d rs (t .1) };
           short = short;
           fits = fits;
           least = l;

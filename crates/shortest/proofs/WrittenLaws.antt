@@ -13,9 +13,8 @@ use Rattle.octets.proofs.NumberLaws.{Octets}
 use Rattle.names.specs.SubIds.{subids}
 use Rattle.message.specs.declared.request.Binding.{Binding}
 use Rattle.message.specs.Request as request
-use Rattle.message.specs.Request.{kindAllowed, statusAllowed, contentPlace}
+use Rattle.message.specs.Request.{kindAllowed, statusAllowed}
 use Rattle.message.specs.Answer.{Bound, headOctets, messageOctets, mostOctets}
-use Rattle.message.specs.Theorems as form
 use Rattle.message.specs.Theorems.{boundAt}
 use Rattle.message.proofs.FormLaws.{cond-cases}
 use Rattle.datagram.specs.Ber.{fewest}
@@ -24,7 +23,7 @@ use Rattle.datagram.specs.Writing.{lengthForm, headerForm, berOctets, shortened
 use Rattle.datagram.specs.Theorems.{Carried, AllCarried}
 use Rattle.datagram.proofs.PlaceLaws.{name-back}
 use Rattle.datagram.proofs.ReadLaws.{octets-append}
-use Rattle.datagram.proofs.ReadBack.{anyOctets, any-response}
+use Rattle.datagram.proofs.ReadBack.{any-response, carried-by}
 use Rattle.datagram.proofs.SentBack.{ReadingOwn, reading-own, sent-reads-back}
 use Rattle.shortest.specs.Theorems.{DatagramOf, Shortest, WritesShortest}
 use Rattle.shortest.proofs.LeastLaws.{octets-be, octets-none, octets-cons, octets-form}
@@ -148,13 +147,6 @@ written-of room x m =
         (λ t h. (kind, id, status, index, bs, e, l, s, leb-true (length octets) mostOctets t, name-back room octets (length octets) refl))
         (λ t h. nothing h)
 
-sent-carried : (bs : List Bound) → AllCarried bs → form.AllCarried 2 bs
-unfolding contentPlace
-sent-carried [] w = tt
-sent-carried (b ∷ bs) w =
-    let v = w .0 .sendable in
-    (record { long = v .long; short = v .short; fours = v .fours; tagged = v .tagged; sized = v .sized }, sent-carried bs (w .1))
-
 -- the datagram that was written, read again
 read-again : (room x m : List ℕ) (kind id status index : ℕ) (bs : List Binding) → Octets m → mostOctets ≤ length room → length m ≤ mostOctets → readResponse m ≡ request.message kind id status index bs
     → length (datagramOctets x id status index (map (boundAt m) bs)) ≤ mostOctets → (d : List ℕ) → take (toDatagram room x m .count) (toDatagram room x m .room) ≡ d
@@ -173,7 +165,7 @@ writes-shortest room x m o ox h =
     let bs : List Bound = map (boundAt m) rs in
     let d : List ℕ = datagramOctets x id status index bs in
     let (st, ix) = status-octets m 2 id status index bs o (sym own) in
-    let v : Formed true m 2 id status index bs = record { is = sym own; taken = refl; quiet = refl; small = small; few = few; carried = sent-carried bs carried } in
+    let v : Formed true m 2 id status index bs = record { is = sym own; taken = refl; quiet = refl; small = small; few = few; carried = carried-by bs carried } in
     subst (Shortest true m x) (sym is)
     record {
       taken = record {
