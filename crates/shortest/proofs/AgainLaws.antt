@@ -1,12 +1,12 @@
 -- A response that was read from a datagram is written again (`ShortestIsWritten` of specs/Theorems): writing takes what the message form reads, where the names have a counterpart. Assumes nothing.
-use Prim.Native.Nat.{ℕ, zero, suc, _+_, _≤_, _<_}
+use Prim.Native.Nat.{ℕ, zero, suc, _+_, _≤_}
 use mathlib.Core.Path.{_≡_, refl, sym, ap, subst, _∙_}
-use mathlib.Core.Bool.{Bool, true, false, cond, _&&_, _||_}
+use mathlib.Core.Bool.{Bool, true, false, cond}
 use mathlib.Core.List.{List, [], _∷_, map}
 use native.Mathlib.Omega.{arith}
 use borrow.Author.Tests.{le-leb, le-ltb, eqb-true}
-use lib.Dec.{leb, ltb, eqb}
-use lib.ListN.{length, getD, take, drop, length-take}
+use lib.Dec.{leb}
+use lib.ListN.{length, getD, drop, length-take}
 use Rattle.octets.specs.Numbers.{beOctets}
 use Rattle.message.specs.declared.form.Place.the-variants.{Bind, Name}
 use Rattle.message.specs.declared.form.Checked.{Checked}
@@ -14,7 +14,7 @@ use Rattle.message.specs.declared.request.Binding.{Binding}
 use Rattle.message.specs.declared.request.Head.{Head}
 use Rattle.message.specs.declared.request.Step.{Step}
 use Rattle.message.specs.Form.{checkedAt, refusal}
-use Rattle.message.specs.Request.{answersToo, kindAllowed, checkedThen, headOf, contentIn, contentPlace, bindingIn, bindingAt, Bindings, ended, all, prepend, stepThen, seventeenth, bindingsFrom, Reading, refused, message, withBindings, headThen, readMessage}
+use Rattle.message.specs.Request.{answersToo, kindAllowed, checkedThen, headOf, contentIn, contentPlace, bindingIn, bindingAt, Bindings, ended, all, prepend, stepThen, seventeenth, bindingsFrom, message, withBindings, headThen, readMessage}
 use Rattle.message.specs.Answer.{Bound, headOctets, messageOctets, mostOctets}
 use Rattle.message.specs.Theorems.{boundAt}
 use Rattle.message.proofs.FormLaws.{clash, cond-cases}
@@ -22,7 +22,7 @@ use Rattle.datagram.specs.Writing.{nameWritten, responseIn, responseAt, respons
 use Rattle.datagram.proofs.SendLaws.{checked-cases}
 use Rattle.datagram.proofs.SentBack.{written-own}
 use Rattle.datagram.proofs.ReadBack.{anyOctets, any-response, AllCarriedBy}
-use Rattle.shortest.specs.Theorems.{isResponse, Shortest, ShortestIsWritten}
+use Rattle.shortest.specs.Theorems.{ShortestIsWritten}
 use Rattle.shortest.proofs.Theorems.{Formed, formed-reads, Canonical, canonical, shortest-is}
 
 module _ (s : List ℕ) where

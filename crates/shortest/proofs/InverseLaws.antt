@@ -1,7 +1,7 @@
 -- What was read in BER, written again: numbers, names and contents in the fewest octets are the octets that were read. Assumes nothing.
 use Prim.Native.Nat.{ℕ, zero, suc, _+_, _*_, _-_, _/_, _%_, _^_, _≤_, _<_}
 use mathlib.Core.Path.{_≡_, refl, sym, ap, ap₂, _∙_}
-use mathlib.Core.Bool.{Bool, true, false, cond, not, _&&_, _||_}
+use mathlib.Core.Bool.{Bool, true, false, cond, not, _&&_}
 use mathlib.Core.List.{List, [], _∷_, _++_, append-assoc}
 use native.Mathlib.Omega.{arith}
 use native.Mathlib.Nat.{pow-suc}
@@ -12,13 +12,13 @@ use lib.Seq.{take-all}
 use Rattle.octets.specs.Numbers.{beAt, beOctets}
 use Rattle.octets.proofs.PartLaws.{both}
 use Rattle.octets.proofs.NumberLaws.{Octets, beOctets-beAt}
-use Rattle.names.specs.SubIds.{nameOctets, subids, Fits}
+use Rattle.names.specs.SubIds.{nameOctets, Fits}
 use Rattle.names.proofs.SubIdLaws.{subids-nameOctets}
 use Rattle.message.specs.Form.{tagAllowed}
 use Rattle.message.specs.Request.{contentPlace}
 use Rattle.message.specs.declared.form.Place.the-variants.{Null, Value, Answered}
 use Rattle.message.proofs.FormLaws.{clash}
-use Rattle.datagram.specs.Ber.{fewest, sign, five, four, integer32, unsigned32, unsigned8, isNumber, endsFrom, nameWhole, numbersFrom, firstOf, firstTwo, subIds, allBelow, nameFits, contentTag, numberJudged, contentJudged, contentOctets}
+use Rattle.datagram.specs.Ber.{fewest, sign, five, four, integer32, unsigned32, unsigned8, isNumber, endsFrom, nameWhole, numbersFrom, firstOf, firstTwo, subIds, allBelow, nameFits, contentTag, contentJudged, contentOctets}
 use Rattle.datagram.specs.Reading.{statusJudged}
 use Rattle.datagram.specs.Writing.{shortened, goingOn, base128, numbersOctets, firstOne, nameBer, berTag, contentBer}
 use Rattle.datagram.proofs.BackLaws.{pick, div-small, Short, fits-short}

@@ -5,14 +5,14 @@ use mathlib.Core.Bool.{Bool, true, false, cond, _&&_}
 use mathlib.Core.List.{List, [], _∷_, _++_}
 use native.Mathlib.Omega.{arith}
 use native.Mathlib.Numerals.{add-one}
-use borrow.Author.Tests.{lt-ltb, le-ltb, ltb-true, ltb-false, leb-true}
-use lib.Dec.{leb, ltb, eqb}
+use borrow.Author.Tests.{lt-ltb, ltb-true, ltb-false, leb-true}
+use lib.Dec.{leb, ltb}
 use lib.ListN.{length, getD, take, drop, length-append}
 use lib.Seq.{drop-cons}
 use Rattle.octets.specs.Numbers.{beAt, beOctets}
 use Rattle.octets.specs.Parts.{part}
 use Rattle.octets.proofs.PartLaws.{both, take-take-drop}
-use Rattle.octets.proofs.NumberLaws.{Octets, beAt-one, beAt-lt, beOctets-beAt, length-beOctets}
+use Rattle.octets.proofs.NumberLaws.{Octets, beAt-one, beOctets-beAt, length-beOctets}
 use Rattle.message.specs.declared.form.Field.{Field}
 use Rattle.message.specs.declared.form.Field.the-variants.{Cut, Whole}
 use Rattle.datagram.specs.Ber.{longForm, lengthOctets, lengthSaid, wholeIf, fieldAt}

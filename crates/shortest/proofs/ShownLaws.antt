@@ -1,10 +1,10 @@
 -- A datagram that was read, and the shortest that says the same, stage by stage of the reading. Assumes nothing.
-use Prim.Native.Nat.{ℕ, zero, suc, _+_, _-_, _≤_, _<_}
-use mathlib.Core.Path.{_≡_, refl, sym, ap, ap₂, subst, _∙_}
+use Prim.Native.Nat.{ℕ, zero, suc, _+_, _-_, _≤_}
+use mathlib.Core.Path.{_≡_, refl, sym, ap, subst, _∙_}
 use mathlib.Core.Bool.{Bool, true, false, cond, _&&_}
 use mathlib.Core.List.{List, [], _∷_, _++_, map}
 use native.Mathlib.Omega.{arith}
-use borrow.Author.Tests.{leb-true, leb-false, eqb-true}
+use borrow.Author.Tests.{leb-true, eqb-true}
 use lib.Dec.{leb, eqb}
 use lib.ListN.{length, getD}
 use lib.Seq.{take-all}
@@ -31,7 +31,7 @@ use Rattle.datagram.specs.Writing.{shortened, berOctets, nameBer, berTag, conte
 use Rattle.datagram.proofs.BerLaws.{part-at, part-length, field-told, part-told, number-told}
 use Rattle.datagram.proofs.ReadLaws.{found-cases, field-cases, taken-above, HeadTells, head-tells, octets-part}
 use Rattle.datagram.proofs.ReadBack.{anyOctets}
-use Rattle.shortest.proofs.InverseLaws.{some-octets, id-inverse, status-inverse, name-inverse, content-inverse, tag-inverse}
+use Rattle.shortest.proofs.InverseLaws.{id-inverse, status-inverse, name-inverse, content-inverse, tag-inverse}
 use Rattle.shortest.proofs.LeastLaws.{Least, Shown, shown-part, shown-append, shown-none, shown-field}
 
 -- ## Fields that were found

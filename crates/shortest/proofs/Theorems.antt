@@ -4,9 +4,9 @@ use mathlib.Core.Path.{_≡_, refl, sym, ap, subst, _∙_}
 use mathlib.Core.Bool.{Bool, true, false, cond, _&&_, _||_}
 use mathlib.Core.List.{List, [], _∷_, _++_, map}
 use native.Mathlib.Omega.{arith}
-use borrow.Author.Tests.{le-leb, leb-true, le-ltb, lt-ltb, ltb-true, ltb-false}
+use borrow.Author.Tests.{le-leb, leb-true, lt-ltb, ltb-true, ltb-false}
 use lib.Dec.{leb, ltb, eqb}
-use lib.ListN.{length, getD, take, replicate, length-replicate}
+use lib.ListN.{length, take, replicate, length-replicate}
 use Rattle.octets.specs.Numbers.{beAt, beOctets}
 use Rattle.octets.specs.Parts.{part, patch}
 use Rattle.octets.proofs.NumberLaws.{Octets, beAt-in, length-beOctets}
@@ -18,13 +18,13 @@ use Rattle.message.specs.Answer.{Bound, messageOctets, mostOctets}
 use Rattle.message.specs.Theorems as form
 use Rattle.message.proofs.FormLaws.{cond-cases}
 use Rattle.message.proofs.ReadBack.{any-reads-back}
-use Rattle.datagram.specs.Ber.{nameWhole, nameFits, numbersFrom, firstOf, firstTwo, subIds}
+use Rattle.datagram.specs.Ber.{numbersFrom, firstOf, firstTwo, subIds}
 use Rattle.datagram.specs.Reading.{takesOf, Within, boundAt, Reading, refused, message, readDatagram, Given, givenBy, fromDatagram, handed}
 use Rattle.datagram.specs.Writing.{nameWritten}
 use Rattle.datagram.proofs.NameLaws.{two-sub-ids}
 use Rattle.datagram.proofs.PlaceLaws.{name-back, name-below, call-read}
 use Rattle.datagram.proofs.ReadLaws.{AllWithin, ReadingTells, reading-tells, octets-append}
-use Rattle.datagram.proofs.ReadBack.{anyOctets, CarriedBy, AllCarriedBy, any-back}
+use Rattle.datagram.proofs.ReadBack.{anyOctets, AllCarriedBy, any-back}
 use Rattle.datagram.proofs.ReadableLaws.{all-carried, length-bound}
 use Rattle.shortest.specs.Theorems.{DatagramOf, Shortest, ShortestEqual, ShortestExists}
 use Rattle.shortest.proofs.InverseLaws.{below-fits}

@@ -1,5 +1,5 @@
 -- What is written is octets, and a shortest datagram (`WritesShortest` of specs/Theorems). Assumes nothing.
-use Prim.Native.Nat.{ℕ, zero, suc, _+_, _/_, _%_, _^_, _≤_, _<_}
+use Prim.Native.Nat.{ℕ, zero, suc, _+_, _/_, _%_, _≤_, _<_}
 use mathlib.Core.Path.{_≡_, refl, sym, ap, subst, _∙_}
 use mathlib.Core.Bool.{Bool, true, false, cond, _||_}
 use mathlib.Core.List.{List, [], _∷_, _++_, map}
@@ -20,12 +20,12 @@ use Rattle.message.proofs.FormLaws.{cond-cases}
 use Rattle.datagram.specs.Ber.{fewest}
 use Rattle.datagram.specs.Reading.{fromDatagram}
 use Rattle.datagram.specs.Writing.{lengthForm, headerForm, berOctets, shortened, goingOn, base128, numbersOctets, firstOne, nameBer, berTag, contentBer, bindingBer, bindingsBer, responseBer, datagramOctets, readResponse, Sent, sentBy, toDatagram}
-use Rattle.datagram.specs.Theorems.{Carried, AllCarried}
+use Rattle.datagram.specs.Theorems.{AllCarried}
 use Rattle.datagram.proofs.PlaceLaws.{name-back}
 use Rattle.datagram.proofs.ReadLaws.{octets-append}
 use Rattle.datagram.proofs.ReadBack.{any-response, carried-by}
 use Rattle.datagram.proofs.SentBack.{ReadingOwn, reading-own, sent-reads-back}
-use Rattle.shortest.specs.Theorems.{DatagramOf, Shortest, WritesShortest}
+use Rattle.shortest.specs.Theorems.{Shortest, WritesShortest}
 use Rattle.shortest.proofs.LeastLaws.{octets-be, octets-none, octets-cons, octets-form}
 use Rattle.shortest.proofs.Theorems.{Formed, same-octets, Canonical, canonical}
 
