@@ -27,7 +27,7 @@ use Rattle.datagram.proofs.ReadLaws.{AllWithin, ReadingTells, reading-t
 
 -- ## A content that was read has a length that its tag allows
 
-judged-both : (short fits : Bool) → numberJudged short fits ≡ 0 → (short ≡ true) × (fits ≡ true)
+pub judged-both : (short fits : Bool) → numberJudged short fits ≡ 0 → (short ≡ true) × (fits ≡ true)
 judged-both true true e = (refl, refl)
 judged-both true false e = absurd (omega arith)
 judged-both false fits e = absurd (omega arith)
@@ -95,11 +95,11 @@ carried kind s b w t =
       sized = content-sized (b .tag) (part s (b .content) (b .len)) (w .right);
     }
 
-all-carried : (kind : ℕ) (s : List ℕ) (bs : List Binding) → AllWithin kind s bs → AllCarried kind (map (boundAt s) bs)
+pub all-carried : (kind : ℕ) (s : List ℕ) (bs : List Binding) → AllWithin kind s bs → AllCarried kind (map (boundAt s) bs)
 all-carried kind s [] w = tt
 all-carried kind s (b ∷ bs) w = (carried kind s b (w .0 .0) (w .0 .1), all-carried kind s bs (w .1))
 
-length-bound : (s : List ℕ) (bs : List Binding) → length (map (boundAt s) bs) ≡ length bs
+pub length-bound : (s : List ℕ) (bs : List Binding) → length (map (boundAt s) bs) ≡ length bs
 length-bound s [] = refl
 length-bound s (b ∷ bs) = omega (arith, length-bound s bs)
 
