@@ -1,0 +1,13 @@
+pub mod FrameLaws
+pub mod NameLaws
+pub mod PairLaws
+pub mod CheckLaws
+pub mod OrderLaws
+pub mod AcceptLaws
+pub mod TargetLaws
+pub mod ReadingLaws
+pub mod RoomLaws
+pub mod SearchLaws
+pub mod CallLaws
+pub mod Theorems
+pub mod Example

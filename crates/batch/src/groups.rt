@@ -1,0 +1,198 @@
+// What the bindings of a message name.
+ghost use mathlib.Core.Path.{_≡_};
+ghost use mathlib.Core.List.{map};
+ghost use Prim.Native.Nat.{_+_, _*_, _≤_, _<_};
+ghost use lib.ListN.{length, take, drop};
+ghost use Rattle.names.specs.SubIds.{subids};
+ghost use Rattle.names.specs.Index.{keyIn};
+ghost use Rattle.names.specs.Table.{objectAt};
+ghost use Rattle.answer.specs.Get.{restOf};
+ghost use Rattle.answer.specs.Judge.{tableOf, placed, groupOf};
+ghost use Rattle.batch.specs.Names.{groupsOf, sameGroup, among, common};
+ghost use Rattle.batch.specs.Found.{meant, targets, BoundIn, groupAt, Few};
+use message::request::Binding;
+use message::request::Outcome;
+use message::request::read_request;
+use names::Key;
+use names::index::key_of;
+use names::table::Found;
+use names::table::object;
+use names::table::type_of;
+
+// The place of a table's first object, and a key; the place NOTHING where nothing is named.
+pub struct Target {
+    pub table: u32,
+    pub key: u64,
+}
+
+pub struct Targets {
+    pub count: usize,
+    pub all: [Target; 16],
+}
+
+pub const NOTHING: u32 = 35;
+
+const NO_TARGET: Target = Target { table: 35, key: 0 };
+
+// The first object of each object's table; the three bridge timers stand together.
+const TABLES: [u32; 35] = [
+    0,
+    1,
+    2,
+    3,
+    3,
+    5,
+    6,
+    7,
+    8,
+    9,
+    9,
+    9,
+    9,
+    13,
+    14,
+    14,
+    14,
+    14,
+    18,
+    18,
+    20,
+    21,
+    22,
+    23,
+    24,
+    25,
+    26,
+    27,
+    27,
+    27,
+    27,
+    27,
+    32,
+    32,
+    32,
+];
+
+pub fn table_at(i: usize) -> u32
+    requires { ⌜ i < 35 ⌝ }
+    ensures { λ r. ⌜ (r ≡ tableOf i) × (r < 35) ⌝ }
+{
+    TABLES[i]
+}
+
+// What a name that has the object at place i as a prefix names.
+pub fn target_under(ports: u32, i: usize, name: &[u8]) -> Target
+    requires { ⌜ (ports ≤ 64) × (i < 35) × (4 * (7 + objectAt i .len) ≤ length (now name)) ⌝ }
+    ensures { λ r. ⌜ meant r ≡ placed i (keyIn ports (objectAt i .shape) (restOf i (subids (now (name .entry))))) ⌝ }
+{
+    let o = object(i);
+    let shape = o.shape;
+    let at = 4 * (7 + o.len);
+    let key = key_of(ports, shape, &name[at..]);
+    match key {
+        Key::At(k) => Target {
+            table: table_at(i),
+            key: k,
+        },
+        Key::Nothing => NO_TARGET,
+    }
+}
+
+// What a name names.
+pub fn target_of(ports: u32, name: &[u8]) -> Target
+    requires { ⌜ ports ≤ 64 ⌝ }
+    ensures { λ r. ⌜ meant r ≡ groupOf ports (subids (now (name .entry))) ⌝ }
+{
+    let found = type_of(name);
+    match found {
+        Found::Object(i) => target_under(ports, i, name),
+        Found::Unknown => NO_TARGET,
+    }
+}
+
+// What each of a message's bindings names.
+pub fn targets_in(ports: u32, m: &[u8], bindings: [Binding; 16], count: usize) -> [Target; 16]
+    requires { ⌜ (ports ≤ 64) × BoundIn (now m) bindings count ⌝ }
+    ensures { λ r. ⌜ map meant (take count r) ≡ map (groupAt ports (now (m .entry))) (take count bindings) ⌝ }
+{
+    let mut all = [NO_TARGET; 16];
+    let mut i = 0;
+    while i < count {
+        let b = bindings[i];
+        let at = b.name;
+        let end = at + b.size;
+        all[i] = target_of(ports, &m[at..end]);
+        i += 1;
+    }
+    all
+}
+
+// What a message names.
+pub fn targets_of(ports: u32, m: &[u8]) -> Targets
+    requires { ⌜ ports ≤ 64 ⌝ }
+    ensures { λ r. ⌜ (targets r ≡ groupsOf ports (now (m .entry))) × Few r ⌝ }
+{
+    let r = read_request(m);
+    let bindings = r.bindings;
+    let outcome = r.outcome;
+    match outcome {
+        Outcome::Refused(_) => Targets {
+            count: 0,
+            all: [NO_TARGET; 16],
+        },
+        Outcome::Read {
+            kind: _,
+            id: _,
+            count,
+        } => Targets {
+            count,
+            all: targets_in(ports, m, bindings, count),
+        },
+    }
+}
+
+pub fn same_target(a: Target, b: Target) -> bool
+    ensures { λ r. ⌜ r ≡ sameGroup (meant a) (meant b) ⌝ }
+{
+    if a.table == NOTHING {
+        return false;
+    }
+    if a.table != b.table {
+        return false;
+    }
+    a.key == b.key
+}
+
+// Whether a row or scalar is among those of a message, from one of its bindings on.
+pub fn is_among(t: Target, of: Targets, from: usize) -> bool
+    requires { ⌜ Few of × (from ≤ of .count) ⌝ }
+    ensures { λ r. ⌜ r ≡ among (meant t) (drop from (targets of)) ⌝ }
+{
+    let count = of.count;
+    let all = of.all;
+    let mut j = from;
+    while j < count {
+        if same_target(t, all[j]) {
+            return true;
+        }
+        j += 1;
+    }
+    false
+}
+
+// Whether two messages name a common row or scalar.
+pub fn share(a: Targets, b: Targets) -> bool
+    requires { ⌜ Few a × Few b ⌝ }
+    ensures { λ r. ⌜ r ≡ common (targets a) (targets b) ⌝ }
+{
+    let count = a.count;
+    let all = a.all;
+    let mut i = 0;
+    while i < count {
+        if is_among(all[i], b, 0) {
+            return true;
+        }
+        i += 1;
+    }
+    false
+}
