@@ -1,18 +1,19 @@
 // What the bindings of a message name.
 ghost use mathlib.Core.Path.{_≡_};
-ghost use mathlib.Core.List.{map};
+ghost use mathlib.Core.Bool.{true};
 ghost use Prim.Native.Nat.{_+_, _*_, _≤_, _<_};
-ghost use lib.ListN.{length, take, drop};
+ghost use lib.ListN.{length, drop};
 ghost use Rattle.names.specs.SubIds.{subids};
 ghost use Rattle.names.specs.Index.{keyIn};
 ghost use Rattle.names.specs.Table.{objectAt};
+ghost use Rattle.message.specs.Request.{readRequest};
 ghost use Rattle.answer.specs.Get.{restOf};
+ghost use Rattle.answer.specs.Terms.{isSet};
 ghost use Rattle.answer.specs.Judge.{tableOf, placed, groupOf};
 ghost use Rattle.batch.specs.Names.{groupsOf, sameGroup, among, common};
-ghost use Rattle.batch.specs.Found.{meant, targets, BoundIn, groupAt, Few};
-use message::request::Binding;
-use message::request::Outcome;
-use message::request::read_request;
+ghost use Rattle.batch.specs.Found.{meant, targets, Few};
+use message::request::Step;
+use message::request::binding_at;
 use names::Key;
 use names::index::key_of;
 use names::table::Found;
@@ -31,6 +32,11 @@ pub struct Targets {
 }
 
 pub const NOTHING: u32 = 35;
+
+// The kind of a set, and where a message's bindings start.
+pub const SET: u8 = 3;
+
+const HEAD_OCTETS: usize = 16;
 
 const NO_TARGET: Target = Target { table: 35, key: 0 };
 
@@ -110,45 +116,29 @@ pub fn target_of(ports: u32, name: &[u8]) -> Target
     }
 }
 
-// What each of a message's bindings names.
-pub fn targets_in(ports: u32, m: &[u8], bindings: [Binding; 16], count: usize) -> [Target; 16]
-    requires { ⌜ (ports ≤ 64) × BoundIn (now m) bindings count ⌝ }
-    ensures { λ r. ⌜ map meant (take count r) ≡ map (groupAt ports (now (m .entry))) (take count bindings) ⌝ }
-{
-    let mut all = [NO_TARGET; 16];
-    let mut i = 0;
-    while i < count {
-        let b = bindings[i];
-        let at = b.name;
-        let end = at + b.size;
-        all[i] = target_of(ports, &m[at..end]);
-        i += 1;
-    }
-    all
-}
-
-// What a message names.
+// What a set names: its bindings are read one after the other, behind the head, and not kept.
 pub fn targets_of(ports: u32, m: &[u8]) -> Targets
-    requires { ⌜ ports ≤ 64 ⌝ }
+    requires { ⌜ (ports ≤ 64) × (isSet (readRequest (now m)) ≡ true) ⌝ }
     ensures { λ r. ⌜ (targets r ≡ groupsOf ports (now (m .entry))) × Few r ⌝ }
 {
-    let r = read_request(m);
-    let bindings = r.bindings;
-    let outcome = r.outcome;
-    match outcome {
-        Outcome::Refused(_) => Targets {
-            count: 0,
-            all: [NO_TARGET; 16],
-        },
-        Outcome::Read {
-            kind: _,
-            id: _,
-            count,
-        } => Targets {
-            count,
-            all: targets_in(ports, m, bindings, count),
-        },
+    let mut all = [NO_TARGET; 16];
+    let mut count: usize = 0;
+    let mut at: usize = HEAD_OCTETS;
+    while at < m.len() {
+        match binding_at(SET, m, at) {
+            Step::Refused(_) => {
+                return Targets { count, all };
+            }
+            Step::Bound { binding, next } => {
+                let start = binding.name;
+                let end = start + binding.size;
+                all[count] = target_of(ports, &m[start..end]);
+                count += 1;
+                at = next;
+            }
+        }
     }
+    Targets { count, all }
 }
 
 pub fn same_target(a: Target, b: Target) -> bool

@@ -1,7 +1,6 @@
 // Room in the growing tables for the absent rows that the messages name.
 ghost use mathlib.Core.Path.{_≡_};
 ghost use mathlib.Core.Bool.{true, cond};
-ghost use mathlib.Core.List.{map};
 ghost use Prim.Native.Nat.{_+_, _*_, _≤_, _<_};
 ghost use lib.Dec.{ltb};
 ghost use lib.ListN.{length, drop};
@@ -11,15 +10,14 @@ ghost use Rattle.block.specs.Valid.{legal};
 ghost use Rattle.answer.specs.Writes.{present};
 ghost use Rattle.answer.specs.Tables.{rowsOf, most, firstColumn, shapeOf};
 ghost use Rattle.answer.specs.Terms.{absent};
-ghost use Rattle.console.specs.Batch.{mostFrames, AllWithin};
-ghost use Rattle.batch.specs.Names.{groupsOf, keysAt};
-ghost use Rattle.batch.specs.Found.{targets, Few, messagesIn, tableFor, absentEach};
+ghost use Rattle.batch.specs.Names.{keysAt};
+ghost use Rattle.batch.specs.Found.{targets, Few, tableFor, absentEach, SetsFrom, namedFrom};
+use super::frames::message_at;
+use super::frames::targets_at;
 use super::groups::Targets;
 use super::groups::is_among;
-use super::pairs::targets_at;
 use block::reads::static_count;
 use block::reads::vlan_count;
-use console::frames::Span;
 use get::instances::exists;
 use names::Shape;
 
@@ -28,7 +26,7 @@ pub enum Grows {
     Static,
 }
 
-pub fn first_column(t: Grows) -> u32
+fn first_column(t: Grows) -> u32
     ensures { λ r. ⌜ r ≡ firstColumn (tableFor t) ⌝ }
 {
     match t {
@@ -46,7 +44,7 @@ fn shape_of(t: Grows) -> Shape
     }
 }
 
-pub fn row_count(block: &[u8], t: Grows) -> usize
+fn row_count(block: &[u8], t: Grows) -> usize
     requires { ⌜ legal (now block) ≡ true ⌝ }
     ensures { λ r. ⌜ (r ≡ length (rowsOf (tableFor t) (contentOf (now (block .entry))))) × (r ≤ 256) ⌝ }
 {
@@ -57,7 +55,7 @@ pub fn row_count(block: &[u8], t: Grows) -> usize
 }
 
 // Whether a growing table has the row with a key.
-pub fn is_there(block: &[u8], t: Grows, key: u64) -> bool
+fn is_there(block: &[u8], t: Grows, key: u64) -> bool
     requires { ⌜ legal (now block) ≡ true ⌝ }
     ensures { λ r. ⌜ r ≡ present (lookup key (rowsOf (tableFor t) (contentOf (now (block .entry))))) ⌝ }
 {
@@ -65,7 +63,7 @@ pub fn is_there(block: &[u8], t: Grows, key: u64) -> bool
 }
 
 // Whether binding i of a message names an absent row of a table that no binding behind it names.
-pub fn is_new(block: &[u8], t: Grows, of: Targets, i: usize) -> bool
+fn is_new(block: &[u8], t: Grows, of: Targets, i: usize) -> bool
     requires { ⌜ (legal (now block) ≡ true) × Few of × (i < of .count) ⌝ }
     ensures { λ r. ⌜ absent (rowsOf (tableFor t) (contentOf (now (block .entry)))) (keysAt (firstColumn (tableFor t)) (drop i (targets of))) ≡ cond r 1 0 + absent (rowsOf (tableFor t) (contentOf (now (block .entry)))) (keysAt (firstColumn (tableFor t)) (drop (i + 1) (targets of))) ⌝ }
 {
@@ -82,7 +80,7 @@ pub fn is_new(block: &[u8], t: Grows, of: Targets, i: usize) -> bool
 }
 
 // How many absent rows of a table a message names, each once.
-pub fn absent_in(block: &[u8], t: Grows, of: Targets) -> usize
+fn absent_in(block: &[u8], t: Grows, of: Targets) -> usize
     requires { ⌜ (legal (now block) ≡ true) × Few of ⌝ }
     ensures { λ r. ⌜ (r ≡ absent (rowsOf (tableFor t) (contentOf (now (block .entry)))) (keysAt (firstColumn (tableFor t)) (targets of))) × (r ≤ 16) ⌝ }
 {
@@ -99,36 +97,26 @@ pub fn absent_in(block: &[u8], t: Grows, of: Targets) -> usize
 }
 
 // The rows of a table and the absent ones that the messages name, message by message.
-pub fn needed(
-    block: &[u8],
-    t: Grows,
-    ports: u32,
-    batch: &[u8],
-    spans: [Span; 64],
-    count: usize,
-) -> usize
-    requires { ⌜ (legal (now block) ≡ true) × (ports ≤ 64) × (count ≤ mostFrames) × AllWithin (now batch) spans count ⌝ }
-    ensures { λ r. ⌜ r ≡ length (rowsOf (tableFor t) (contentOf (now (block .entry)))) + absentEach (rowsOf (tableFor t) (contentOf (now (block .entry)))) (firstColumn (tableFor t)) (map (groupsOf ports) (messagesIn (now (batch .entry)) spans count)) ⌝ }
+fn needed(block: &[u8], t: Grows, ports: u32, batch: &[u8]) -> usize
+    requires { ⌜ (legal (now block) ≡ true) × (ports ≤ 64) × SetsFrom (now batch) 0 1 ⌝ }
+    ensures { λ r. ⌜ r ≡ length (rowsOf (tableFor t) (contentOf (now (block .entry)))) + absentEach (rowsOf (tableFor t) (contentOf (now (block .entry)))) (firstColumn (tableFor t)) (namedFrom ports (now (batch .entry)) 0 1) ⌝ }
 {
     let mut n = row_count(block, t);
-    let mut i = 0;
-    while i < count {
-        n += absent_in(block, t, targets_at(ports, batch, spans[i]));
+    let mut at: usize = 0;
+    let mut i: usize = 1;
+    while at < batch.len() {
+        let s = message_at(batch, at);
+        n += absent_in(block, t, targets_at(ports, batch, s));
+        at = s.start + s.len;
         i += 1;
     }
     n
 }
 
-pub fn is_short(
-    block: &[u8],
-    t: Grows,
-    ports: u32,
-    batch: &[u8],
-    spans: [Span; 64],
-    count: usize,
-) -> bool
-    requires { ⌜ (legal (now block) ≡ true) × (ports ≤ 64) × (count ≤ mostFrames) × AllWithin (now batch) spans count ⌝ }
-    ensures { λ r. ⌜ r ≡ ltb (most (tableFor t)) (length (rowsOf (tableFor t) (contentOf (now (block .entry)))) + absentEach (rowsOf (tableFor t) (contentOf (now (block .entry)))) (firstColumn (tableFor t)) (map (groupsOf ports) (messagesIn (now (batch .entry)) spans count))) ⌝ }
+// Whether a table has not room for all absent rows that the messages name.
+pub fn is_short(block: &[u8], t: Grows, ports: u32, batch: &[u8]) -> bool
+    requires { ⌜ (legal (now block) ≡ true) × (ports ≤ 64) × SetsFrom (now batch) 0 1 ⌝ }
+    ensures { λ r. ⌜ r ≡ ltb (most (tableFor t)) (length (rowsOf (tableFor t) (contentOf (now (block .entry)))) + absentEach (rowsOf (tableFor t) (contentOf (now (block .entry)))) (firstColumn (tableFor t)) (namedFrom ports (now (batch .entry)) 0 1)) ⌝ }
 {
-    256 < needed(block, t, ports, batch, spans, count)
+    MOST_ROWS < needed(block, t, ports, batch)
 }
