@@ -26,18 +26,12 @@ use Rattle.answer.specs.Get.{elem}
 use Rattle.answer.specs.Judge.{tableFrom, tableOf, groupOf}
 use Rattle.answer.specs.Cases.{priority, getOf, setOf}
 use Rattle.answer.specs.Terms.{absent}
-use Rattle.answer.specs.Theorems.{Every}
-use Rattle.answer.proofs.EchoTheorem.{octets-every}
 use Rattle.console.specs.Frames.{frame, arrived, sized, step, run}
 use Rattle.console.specs.Batch.{mostFrames, led, framesOf}
 use Rattle.batch.specs.Names.{groupsOf, among, common, keysAt, allNamed}
 use Rattle.batch.specs.declared.RbBatch.{RbBatch}
 use Rattle.batch.specs.Check.{accepted, refusedWith, offending, readSet, eachRead, firstWith, firstPair, isShort, framesJudged, checkBatch}
-use Rattle.batch.specs.Accepted.{Accepted}
-use Rattle.batch.specs.Order.{Turn, Plays, SameInAll, AnyOrder}
 use Rattle.batch.specs.Example.{framed, three, maxAge, helloTime, tenAgain, Batches}
-use Rattle.batch.proofs.CheckLaws.{accepts-exactly}
-use Rattle.batch.proofs.AcceptLaws.{any-order}
 
 -- on the image of a valid content the check goes by the content
 on-image : (c : Content) (batch : List ℕ) → valid c ≡ true → checkBatch (image c) batch ≡ framesJudged c (framesOf mostFrames batch)
@@ -51,16 +45,14 @@ judgedOn a batch = framesJudged (fresh 4 a) (framesOf mostFrames batch)
 computed : (a : List ℕ)
     → (judgedOn a [] ≡ accepted)
     × (judgedOn a (framed three) ≡ accepted)
-    × (judgedOn a (framed (setOf [] ∷ maxAge ∷ setOf (priority 0 0x10 0 ∷ []) ∷ helloTime ∷ [])) ≡ accepted)
+    × (judgedOn a (framed (setOf [] ∷ maxAge ∷ setOf (priority 0 0x10 0 ∷ []) ∷ helloTime ∷ [])) ≡ offending 2 4)
     × (judgedOn a (framed (three ++ (tenAgain ∷ maxAge ∷ helloTime ∷ []))) ≡ offending 1 4)
     × (judgedOn a (framed (setOf [] ∷ getOf (1 ∷ 2 ∷ []) ∷ []) ++ (0 ∷ [])) ≡ record { number = 7; message = 2; offset = 0; first = 0; second = 0; table = 0 })
     × (judgedOn a (framed (maxAge ∷ helloTime ∷ []) ++ (0 ∷ [])) ≡ refusedWith 21)
-    × (framesOf mostFrames (framed three) ≡ (three, 0))
-    × (every isOctet (framed three) ≡ true)
 unfolding every beAt beOctets same subids nameOctets below isPrefix within weight number keyIn objects placeUnder placeOf lookup fresh fieldAt tagAllowed contentLength lengthRight fieldJudged checkedAt
     kindAllowed statusAllowed statusOf idOf headOf contentPlace contentIn bindingIn bindingAt bindingTagAt seventeenth bindingsFrom readMessage headOctets bindingOctets bindingsOctets messageOctets
     elem tableFrom tableOf groupOf absent frame arrived sized step run led framesOf groupsOf among common keysAt allNamed readSet eachRead firstWith firstPair isShort
-computed a = (refl, refl, refl, refl, refl, refl, refl, refl)
+computed a = (refl, refl, refl, refl, refl, refl)
 
 pub batches : (a : List ℕ) → length a ≡ 6 → every isOctet a ≡ true → Batches a
 batches a l o =
@@ -70,15 +62,8 @@ batches a l o =
     record {
       empty = on-image (fresh 4 a) [] v ∙ c .0;
       takes = takes;
-      orders = λ xs ys p q. in-all (fresh 4 a) (accepts-exactly (image (fresh 4 a)) (framed three) .0 takes) (c .6) (c .7) xs ys p q;
       timers = on-image (fresh 4 a) (framed (setOf [] ∷ maxAge ∷ setOf (priority 0 0x10 0 ∷ []) ∷ helloTime ∷ [])) v ∙ c .2;
       row = on-image (fresh 4 a) (framed (three ++ (tenAgain ∷ maxAge ∷ helloTime ∷ []))) v ∙ c .3;
       no-set = on-image (fresh 4 a) (framed (setOf [] ∷ getOf (1 ∷ 2 ∷ []) ∷ []) ++ (0 ∷ [])) v ∙ c .4;
       wrong-frame = on-image (fresh 4 a) (framed (maxAge ∷ helloTime ∷ []) ++ (0 ∷ [])) v ∙ c .5;
     }
-  where
-    in-all : (c : Content) (w : Accepted (image c) (framed three)) → framesOf mostFrames (framed three) ≡ (three, 0) → every isOctet (framed three) ≡ true
-        → (xs ys : List Turn) → Plays three xs → Plays three ys → SameInAll (image c) xs ys
-    in-all c w e u xs ys p q =
-        let m : three ≡ w .messages = ap (λ (f : List (List ℕ) × ℕ). f .0) (sym e ∙ w .framed) in
-        any-order (image c) (framed three) (octets-every (framed three) u) w xs ys (subst (λ (ms : List (List ℕ)). Plays ms xs) m p) (subst (λ (ms : List (List ℕ)). Plays ms ys) m q)

@@ -1,9 +1,7 @@
-pub mod FrameLaws
 pub mod NameLaws
 pub mod PairLaws
 pub mod CheckLaws
-pub mod OrderLaws
-pub mod AcceptLaws
+pub mod TurnLaws
 pub mod TargetLaws
 pub mod ReadingLaws
 pub mod RoomLaws

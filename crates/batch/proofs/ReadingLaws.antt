@@ -2,37 +2,24 @@
 use Prim.Native.Nat.{ℕ, zero, suc, _+_, _≤_, _<_}
 use native.Mathlib.Omega.{arith}
 use mathlib.Core.Path.{_≡_, refl, sym, ap, subst, _∙_}
-use mathlib.Core.Logic.{⊎-elim}
-use mathlib.Core.Bool.{Bool, true, false, cond}
-use mathlib.Core.List.{List, [], _∷_, map}
-use lib.Dec.{eqb, leb}
+use mathlib.Core.List.{List, [], _∷_}
 use lib.ListN.{length, getD, take, drop}
-use borrow.Author.Tests.{leb-false, ne-eqb, eq-eqb}
-use Rattle.octets.specs.Numbers.{beAt}
+use borrow.Author.Tests.{ne-eqb, eq-eqb}
 use Rattle.message.specs.declared.form.Refusal.{Refusal}
-use Rattle.message.specs.declared.form.Field.{Field}
-use Rattle.message.specs.declared.form.Field.the-variants.{Cut, Whole}
-use Rattle.message.specs.declared.form.Place.{Place}
-use Rattle.message.specs.declared.form.Place.the-variants.{Kind, Id, Status, Bind, Name}
+use Rattle.message.specs.declared.form.Place.the-variants.{Kind}
 use Rattle.message.specs.declared.form.Checked.{Checked}
-use Rattle.message.specs.declared.request.Head.{Head}
 use Rattle.message.specs.declared.request.Binding.{Binding}
-use Rattle.message.specs.declared.request.Step.{Step}
-use Rattle.message.specs.declared.request.Request.{Request}
-use Rattle.message.specs.declared.request.Outcome.{Outcome}
-use Rattle.message.specs.Form.{fieldAt, tagAllowed, lengthRight, judged, checkedAt, refusal}
-use Rattle.message.specs.Request.{requests, kindAllowed, statusAllowed, statusOf, idOf, headOf, contentPlace, contentIn, bindingIn, bindingAt, bindingTagAt, seventeenth, notBinding, Bindings, ended, all, prepend, stepThen, bindingsFrom, Reading, refused, message, checkedThen, headThen, withBindings, readMessage, readRequest, requestOf}
+use Rattle.message.specs.Form.{checkedAt, refusal}
+use Rattle.message.specs.Request.{requests, headOf, Reading, refused, message, readMessage, readRequest}
 use Rattle.message.proofs.OffsetLaws.{refused-where}
-use Rattle.console.specs.Batch.{octetsAt, noSpan}
+use Rattle.console.specs.Batch.{mostFrames, framesMany, octetsAt, Within, Means}
 use Rattle.console.specs.declared.frames.Span.{Span}
-use Rattle.answer.specs.Terms.{isSet}
-use Rattle.batch.specs.Check.{readSet, readThen, unreadable, eachRead}
-use Rattle.batch.specs.Found.{SetMeans, messagesIn}
-use Rattle.batch.specs.declared.RbBatch.{RbBatch}
+use Rattle.console.specs.declared.frames.Framed.{Framed}
+use Rattle.batch.specs.Check.{refusedWith, readSet, readThen, unreadable, eachRead}
+use Rattle.batch.specs.Found.{SetMeans, framesFrom, readFrom}
 use Rattle.batch.specs.declared.reads.SetRead.{SetRead}
 use Rattle.batch.specs.declared.reads.SetRead.the-variants.{Taken, Refused}
-use Rattle.batch.proofs.CheckLaws.{set-cases, NoSet}
-use Rattle.batch.proofs.TargetLaws.{drop-turn, drop-end}
+use Rattle.batch.proofs.TurnLaws.{from-end, from-full, from-refused, from-whole}
 
 -- what the code finds of a message
 module _ (m : List ℕ) {k : Checked} (e : k ≡ checkedAt Kind m 0 (length m)) where
@@ -59,26 +46,41 @@ module _ (m : List ℕ) {k : Checked} (e : k ≡ checkedAt Kind m 0 (length m)) 
     set-taken h {kind} {id} {status} {index} {bs} q i v = ap (λ (x : Reading). readThen i x v) (read-so h ∙ q)
 
 -- the messages one by one
-module _ (b : List ℕ) (spans : List Span) (n : ℕ) (few : n ≤ length spans) (i : ℕ) where
-  abbrev here : List ℕ
-  here = octetsAt b (getD spans i noSpan)
-
-  each-turn : i < n → (v : RbBatch) → eachRead (i + 1) (drop i (messagesIn b spans n)) v ≡ readThen (i + 1) (readSet here) (eachRead (suc (i + 1)) (drop (i + 1) (messagesIn b spans n)) v)
+module _ (b : List ℕ) (at i : ℕ) where
+  ends-with : (n : ℕ) → framesFrom b at i ≡ ([], n) → readFrom b at i ≡ refusedWith n
   unfolding eachRead
-  each-turn h v = ap (λ (l : List (List ℕ)). eachRead (i + 1) l v) (drop-turn (octetsAt b) spans n few i noSpan h)
+  ends-with n e = ap (λ (f : List (List ℕ) × ℕ). eachRead i (f .0) (refusedWith (f .1))) e
 
-  pub each-taken : i < n → SetMeans here Taken → (v : RbBatch)
-      → eachRead (i + 1) (drop i (messagesIn b spans n)) v ≡ eachRead (i + 1 + 1) (drop (i + 1) (messagesIn b spans n)) v
-  each-taken h w v =
-      let q : suc (i + 1) ≡ i + 1 + 1 = omega arith in
-      each-turn h v ∙ w (i + 1) (eachRead (suc (i + 1)) (drop (i + 1) (messagesIn b spans n)) v) ∙ ap (λ (j : ℕ). eachRead j (drop (i + 1) (messagesIn b spans n)) v) q
+  pub read-end : length b ≤ at → readFrom b at i ≡ refusedWith 0
+  read-end h = ends-with 0 (from-end b at i h)
 
-  pub each-refused : i < n → {r : Refusal} → SetMeans here (Refused r) → (v : RbBatch) → eachRead (i + 1) (drop i (messagesIn b spans n)) v ≡ unreadable (i + 1) r
-  each-refused h w v = each-turn h v ∙ ap (λ (x : Reading). readThen (i + 1) x (eachRead (suc (i + 1)) (drop (i + 1) (messagesIn b spans n)) v)) (w .0)
+  module _ (h : at < length b) where
+    pub read-full : mostFrames < i → readFrom b at i ≡ refusedWith framesMany
+    read-full k = ends-with framesMany (from-full b at i h k)
 
-  pub each-end : n ≤ i → (v : RbBatch) → eachRead (i + 1) (drop i (messagesIn b spans n)) v ≡ v
-  unfolding eachRead
-  each-end h v = ap (λ (l : List (List ℕ)). eachRead (i + 1) l v) (drop-end (octetsAt b) spans n few i h)
+    module _ (k : i ≤ mostFrames) {f : Framed} (u : Means b at f) where
+      pub read-wrong : {r : ℕ} → f ≡ Framed.Refused r → readFrom b at i ≡ refusedWith r
+      read-wrong {r} q = ends-with r (from-refused b at i h k r (subst (Means b at) q u))
+
+      module _ {s : Span} (q : f ≡ Framed.Whole s) where
+        pub found-within : Within b s
+        found-within = subst (Means b at) q u .1
+
+        read-turn : readFrom b at i
+            ≡ readThen i (readSet (octetsAt b s)) (eachRead (suc i) (framesFrom b (s .start + s .len) (i + 1) .0) (refusedWith (framesFrom b (s .start + s .len) (i + 1) .1)))
+        unfolding eachRead
+        read-turn = ap (λ (f : List (List ℕ) × ℕ). eachRead i (f .0) (refusedWith (f .1))) (from-whole b at i h k s (subst (Means b at) q u))
+
+        pub read-taken : SetMeans (octetsAt b s) Taken → readFrom b at i ≡ readFrom b (s .start + s .len) (i + 1)
+        read-taken w =
+            let e : suc i ≡ i + 1 = omega arith in
+            read-turn ∙ w i (eachRead (suc i) (framesFrom b (s .start + s .len) (i + 1) .0) (refusedWith (framesFrom b (s .start + s .len) (i + 1) .1)))
+            ∙ ap (λ (j : ℕ). eachRead j (framesFrom b (s .start + s .len) (i + 1) .0) (refusedWith (framesFrom b (s .start + s .len) (i + 1) .1))) e
+
+        pub read-unread : {r : Refusal} → SetMeans (octetsAt b s) (Refused r) → readFrom b at i ≡ unreadable i r
+        read-unread w =
+            read-turn
+            ∙ ap (λ (x : Reading). readThen i x (eachRead (suc i) (framesFrom b (s .start + s .len) (i + 1) .0) (refusedWith (framesFrom b (s .start + s .len) (i + 1) .1)))) (w .0)
 
 -- a message as the code lends it
 pub set-lent : (b : List ℕ) (s : Span) (x : SetRead) {k : ℕ} → k ≡ s .len → SetMeans (take k (drop (s .start) b)) x → SetMeans (octetsAt b s) x

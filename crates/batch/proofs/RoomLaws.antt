@@ -21,16 +21,18 @@ use Rattle.answer.proofs.StoredLaws.{elem-present}
 use Rattle.answer.specs.Terms.{onto, absent}
 use Rattle.answer.proofs.RoomLaws.{by-bool, elem-not-head, elem-not-tail}
 use Rattle.answer.proofs.KeepValid.{valid-few}
-use Rattle.console.specs.Batch.{octetsAt, noSpan}
+use Rattle.console.specs.Batch.{octetsAt, Means}
 use Rattle.console.specs.declared.frames.Span.{Span}
+use Rattle.console.specs.declared.frames.Framed.{Framed}
 use Rattle.batch.specs.Names.{Group, groupsOf, sameGroup, among, common, keysAt, allNamed}
-use Rattle.batch.specs.Found.{meant, noTarget, targets, Few, messagesIn, tableFor, absentEach}
+use Rattle.batch.specs.Found.{meant, noTarget, targets, Few, namedFrom, SetsFrom, tableFor, absentEach}
 use Rattle.batch.specs.declared.groups.Target.{Target}
 use Rattle.batch.specs.declared.groups.Targets.{Targets}
 use Rattle.batch.specs.declared.room.Grows.{Grows}
 use Rattle.batch.specs.declared.room.Grows.the-variants.{Vlan, Static}
 use Rattle.batch.proofs.NameLaws.{common-of, keys-append}
 use Rattle.batch.proofs.PairLaws.{Named, Meets, NoneMeet}
+use Rattle.batch.proofs.TurnLaws.{named-turn, named-end}
 use Rattle.batch.proofs.TargetLaws.{drop-turn, drop-end}
 
 module _ (b : List ℕ) (ok : legal b ≡ true) {t u : Grows} (q : t ≡ u) where
@@ -104,35 +106,21 @@ module _ {R : Type 0} (es : List (ℕ × R)) (t : Table) (all : List Target) (n 
       flip true = refl
       flip false = refl
 
--- the messages' names one by one
-module _ (ports : ℕ) (b : List ℕ) (spans : List Span) (n : ℕ) (enough : n ≤ length spans) where
-  abbrev named : List Named
-  named = map (groupsOf ports) (messagesIn b spans n)
-
-  map-twice : (xs : List Span) → map (groupsOf ports) (map (octetsAt b) xs) ≡ map (λ (s : Span). groupsOf ports (octetsAt b s)) xs
-  map-twice [] = refl
-  map-twice (x ∷ xs) = ap (λ (l : List Named). groupsOf ports (octetsAt b x) ∷ l) (map-twice xs)
-
-  pub named-turn : (j : ℕ) → j < n → drop j named ≡ groupsOf ports (octetsAt b (getD spans j noSpan)) ∷ drop (j + 1) named
-  named-turn j h =
-      let f : Span → Named = λ s. groupsOf ports (octetsAt b s) in
-      ap (drop j) (map-twice (take n spans)) ∙ drop-turn f spans n enough j noSpan h
-      ∙ ap (λ (l : List Named). f (getD spans j noSpan) ∷ drop (j + 1) l) (sym (map-twice (take n spans)))
-
-  pub named-end : (j : ℕ) → n ≤ j → drop j named ≡ []
-  named-end j h = ap (drop j) (map-twice (take n spans)) ∙ drop-end (λ (s : Span). groupsOf ports (octetsAt b s)) spans n enough j h
-
-  pub each-more : {R : Type 0} (es : List (ℕ × R)) (t i m k : ℕ) {x : ℕ} → i < n → m + absentEach es t (drop i named) ≡ k
-      → x ≡ absent es (keysAt t (groupsOf ports (octetsAt b (getD spans i noSpan)))) → m + x + absentEach es t (drop (i + 1) named) ≡ k
+-- one message's share in the absent rows
+module _ {R : Type 0} (es : List (ℕ × R)) (t ports : ℕ) where
+  pub each-more : {b : List ℕ} {at i : ℕ} → SetsFrom b at i → at < length b → {s : Span} → Means b at (Framed.Whole s) → (n k : ℕ) {x : ℕ}
+      → n + absentEach es t (namedFrom ports b at i) ≡ k → x ≡ absent es (keysAt t (groupsOf ports (octetsAt b s)))
+      → n + x + absentEach es t (namedFrom ports b (s .start + s .len) (i + 1)) ≡ k
   unfolding absentEach
-  each-more es t i m k h e p =
-      let q : absentEach es t (drop i named) ≡ absent es (keysAt t (groupsOf ports (octetsAt b (getD spans i noSpan)))) + absentEach es t (drop (i + 1) named) =
-      ap (absentEach es t) (named-turn i h) in
+  each-more {b} {at} {i} w h {s} m n k e p =
+      let q : absentEach es t (namedFrom ports b at i)
+      ≡ absent es (keysAt t (groupsOf ports (octetsAt b s))) + absentEach es t (namedFrom ports b (s .start + s .len) (i + 1)) =
+      ap (absentEach es t) (named-turn w h m ports) in
       omega (arith, e, p, q)
 
-  pub each-done : {R : Type 0} (es : List (ℕ × R)) (t i : ℕ) → n ≤ i → absentEach es t (drop i named) ≡ 0
+  pub each-done : (b : List ℕ) (at i : ℕ) → length b ≤ at → absentEach es t (namedFrom ports b at i) ≡ 0
   unfolding absentEach
-  each-done es t i h = ap (absentEach es t) (named-end i h)
+  each-done b at i h = ap (absentEach es t) (named-end ports b at i h)
 
 -- messages of which no two name a common row or scalar: counted message by message, each row is counted once
 elem-apart : (k : ℕ) (a b : List ℕ) → elem k b ≡ false → elem k (a ++ b) ≡ elem k a

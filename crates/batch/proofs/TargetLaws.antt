@@ -2,33 +2,28 @@
 use Prim.Native.Nat.{ℕ, zero, suc, _+_, _-_, _*_, _≤_, _<_}
 use native.Mathlib.Omega.{arith}
 use native.Mathlib.Numerals.{add-one}
-use mathlib.Core.Path.{_≡_, refl, sym, ap, _∙_}
+use mathlib.Core.Path.{_≡_, refl, sym, ap, subst, _∙_}
 use mathlib.Core.Bool.{Bool, true, false, cond, _||_, _&&_, false≢true}
 use mathlib.Core.Option.{Option, none, some}
-use mathlib.Core.List.{List, [], _∷_, _++_, map, map-append}
+use mathlib.Core.List.{List, [], _∷_, _++_, map, map-append, append-assoc, append-nil}
 use lib.Dec.{eqb, ltb}
-use lib.ListN.{length, take, drop, getD, set, length-map, length-drop, drop-of-length-le, length-append}
-use lib.Seq.{length-take-le, drop-cons, take-suc, take-suc-set, getD-take}
-use borrow.Author.Tests.{eq-eqb, ne-eqb, eqb-true, ltb-true}
+use lib.ListN.{length, take, drop, getD, set, length-map, length-set, drop-of-length-le}
+use lib.Seq.{length-take-le, drop-cons, take-suc-set, getD-take}
+use borrow.Author.Tests.{eq-eqb, ne-eqb, eqb-true, ltb-true, le-leb, lt-leb}
 use Rattle.octets.specs.Parts.{part, same}
 use Rattle.names.specs.SubIds.{subids}
-use Rattle.names.specs.Index.{keyIn, answered}
-use Rattle.names.specs.Table.{objects, objectAt, placeOf, found}
-use Rattle.names.specs.declared.Key.{Key}
-use Rattle.names.specs.declared.Key.the-variants.{At, Nothing}
-use Rattle.names.specs.declared.table.Found.{Found}
-use Rattle.names.specs.declared.table.Found.the-variants.{Object, Unknown}
-use Rattle.names.specs.declared.table.ObjectType.{ObjectType}
-use Rattle.names.proofs.SubIdLaws.{subids-count, subids-drop}
-use Rattle.names.proofs.TableLaws.{length-typeName, place-rest}
-use Rattle.answer.specs.Get.{restOf}
-use Rattle.answer.specs.Judge.{sameTable, tableFrom, tableOf, placed, grouped, groupOf}
-use Rattle.answer.proofs.RoomLaws.{by-bool, by-eq}
-use Rattle.message.specs.Request.{Reading, refused, message, readRequest, noBinding}
+use Rattle.names.specs.Table.{objects, placeOf}
+use Rattle.message.specs.declared.form.Refusal.{Refusal}
+use Rattle.message.specs.declared.request.Head.{Head}
 use Rattle.message.specs.declared.request.Binding.{Binding}
-use Rattle.answer.specs.Terms.{askedIn, askedOf}
-use Rattle.answer.specs.Judge.{Asked}
+use Rattle.message.specs.declared.request.Step.{Step}
+use Rattle.message.specs.Request.{requests, headOf, bindingAt, seventeenth, Bindings, ended, all, prepend, bindingsFrom, Reading, refused, message, readMessage, readRequest}
+use Rattle.message.proofs.FormLaws.{clash}
+use Rattle.message.proofs.BindingLaws.{Placed, StepTells, binding-tells}
+use Rattle.answer.specs.Judge.{Asked, tableFrom, tableOf, placed, grouped, groupOf}
+use Rattle.answer.specs.Terms.{askedIn, isSet}
 use Rattle.answer.specs.Respond.{askedAt}
+use Rattle.answer.proofs.RoomLaws.{by-bool}
 use Rattle.batch.specs.Names.{Group, groupsOf, sameGroup, among, common}
 use Rattle.batch.specs.Found.{meant, noTarget, groupAt}
 use Rattle.batch.specs.declared.groups.Target.{Target}
@@ -50,13 +45,6 @@ module _ {A B : Type 0} (f : A → B) (xs : List A) (n : ℕ) (few : n ≤ lengt
 
   pub drop-end : (j : ℕ) → n ≤ j → drop j (map f (take n xs)) ≡ []
   drop-end j h = drop-of-length-le (map f (take n xs)) {i = j} (omega (arith, taken-many))
-
--- one more of two lists alike
-pub take-more : {A B C : Type 0} (f : A → C) (g : B → C) (xs : List A) (ys : List B) (i : ℕ) (v : A) (d : B) → i < length xs → i < length ys
-    → map f (take i xs) ≡ map g (take i ys) → f v ≡ g (getD ys i d) → map f (take (i + 1) (set xs i v)) ≡ map g (take (i + 1) ys)
-take-more f g xs ys i v d h k e p =
-    rw (add-one i, take-suc-set xs i v h, take-suc ys i d k)
-    (map-append f (take i xs) (v ∷ []) ∙ (λ z. e z ++ (p z ∷ [])) ∙ sym (map-append g (take i ys) (getD ys i d ∷ [])))
 
 -- the same row or scalar
 pub same-none : (a b : Target) → a .table ≡ 35 → false ≡ sameGroup (meant a) (meant b)
@@ -123,7 +111,7 @@ up-at f i (suc n) (suc k) h = up-at f (suc i) n k (omega arith) ∙ ap f (omega 
 
 abbrev pub tables : List ℕ
 tables =
-    0 ∷ 1 ∷ 2 ∷ 3 ∷ 3 ∷ 5 ∷ 6 ∷ 7 ∷ 8 ∷ 9 ∷ 9 ∷ 9 ∷ 9 ∷ 13 ∷ 14 ∷ 14 ∷ 14 ∷ 14 ∷ 18 ∷ 18 ∷ 20 ∷ 21 ∷ 22 ∷ 23 ∷ 24 ∷ 25 ∷ 26 ∷ 27 ∷ 27 ∷ 27 ∷ 27 ∷ 27 ∷ 32 ∷ 32 ∷ 32
+    0 ∷ 1 ∷ 2 ∷ 3 ∷ 3 ∷ 5 ∷ 6 ∷ 6 ∷ 6 ∷ 9 ∷ 9 ∷ 9 ∷ 9 ∷ 13 ∷ 14 ∷ 14 ∷ 14 ∷ 14 ∷ 18 ∷ 18 ∷ 20 ∷ 21 ∷ 22 ∷ 23 ∷ 24 ∷ 25 ∷ 26 ∷ 27 ∷ 27 ∷ 27 ∷ 27 ∷ 27 ∷ 32 ∷ 32 ∷ 32
     ∷ []
 
 tables-computed : tables ≡ map (λ i. tableOf i) (upTo 0 35)
@@ -158,15 +146,120 @@ pub group-by : (n : ℕ) (name : List ℕ) (x : Option ℕ) → placeOf name ≡
 unfolding groupOf
 group-by n name x e = ap (λ (o : Option ℕ). grouped n name o) e
 
--- a message's groups, by its bindings
-pub groups-read : (n : ℕ) (m : List ℕ) (kind id status index : ℕ) (bs : List Binding) → readRequest m ≡ message kind id status index bs → groupsOf n m ≡ map (groupAt n m) bs
-unfolding groupsOf
-groups-read n m kind id status index bs e = ap (λ (x : Reading). map (λ (b : Asked). groupOf n (b .name)) (askedIn m x)) e ∙ each bs
-  where
-    each : (bs : List Binding) → map (λ (b : Asked). groupOf n (b .name)) (map (askedAt m) bs) ≡ map (groupAt n m) bs
-    each [] = refl
-    each (b ∷ bs) = ap (λ (l : List (Option Group)). groupAt n m b ∷ l) (each bs)
+-- a set's groups, by its bindings
+pub record Bound (m : List ℕ) : Type 0 where
+  pub bindings : List Binding
+  pub reads : bindingsFrom 3 m 16 16 ≡ all bindings
+  pub named : (n : ℕ) → groupsOf n m ≡ map (groupAt n m) bindings
 
-pub groups-refused : (n : ℕ) (m : List ℕ) {x : Reading} → readRequest m ≡ x → askedIn m x ≡ [] → groupsOf n m ≡ []
-unfolding groupsOf
-groups-refused n m e h = ap (λ (x : Reading). map (λ (b : Asked). groupOf n (b .name)) (askedIn m x)) e ∙ ap (map (λ (b : Asked). groupOf n (b .name))) h
+pub set-bound : (m : List ℕ) → isSet (readRequest m) ≡ true → Bound m
+unfolding readMessage groupsOf
+set-bound m e = by-head (headOf requests m) refl
+  where
+    each : (n : ℕ) (bs : List Binding) → map (λ (b : Asked). groupOf n (b .name)) (map (askedAt m) bs) ≡ map (groupAt n m) bs
+    each n [] = refl
+    each n (b ∷ bs) = ap (λ (l : List (Option Group)). groupAt n m b ∷ l) (each n bs)
+
+    by-bindings : (kind id status index : ℕ) → headOf requests m ≡ Head.Found kind id status index → (x : Bindings) → bindingsFrom kind m 16 16 ≡ x → Bound m
+    by-bindings kind id status index h (ended r) q =
+        let z : readRequest m ≡ refused r = rw (h, q) in
+        absurd (false≢true (ap isSet (sym z) ∙ e))
+    by-bindings kind id status index h (all bs) q =
+        let z : readRequest m ≡ message kind id status index bs = rw (h, q) in
+        let k : kind ≡ 3 = eqb-true kind 3 (ap isSet (sym z) ∙ e) in
+        record {
+          bindings = bs;
+          reads = ap (λ (j : ℕ). bindingsFrom j m 16 16) (sym k) ∙ q;
+          named = λ n. ap (λ (x : Reading). map (λ (b : Asked). groupOf n (b .name)) (askedIn m x)) z ∙ each n bs;
+        }
+
+    by-head : (h : Head) → headOf requests m ≡ h → Bound m
+    by-head (Head.Refused r) q =
+        let z : readRequest m ≡ refused r = rw q in
+        absurd (false≢true (ap isSet (sym z) ∙ e))
+    by-head (Head.Found kind id status index) q = by-bindings kind id status index q (bindingsFrom kind m 16 16) refl
+
+-- a binding that the code finds stands in the message
+pub stands : {m : List ℕ} {at : ℕ} {b : Binding} {next : ℕ} {k : Step} → k ≡ bindingAt 3 m at → k ≡ Step.Bound b next → Placed 3 m at b next
+stands {m} {at} e h = subst (StepTells 3 m at) (sym e ∙ h) (binding-tells 3 m at)
+
+-- the first bindings are named, and the next one stands at `at`
+pub record Sofar (ports : ℕ) (m : List ℕ) (found : List Target) (count at : ℕ) : Type 0 where
+  pub left : ℕ
+  pub rest : List Binding
+  pub long : length found ≡ 16
+  pub room : count + left ≡ 16
+  pub reads : bindingsFrom 3 m left at ≡ all rest
+  pub named : map meant (take count found) ++ map (groupAt ports m) rest ≡ groupsOf ports m
+
+pub sofar-none : (ports : ℕ) (m : List ℕ) (found : List Target) → length found ≡ 16 → isSet (readRequest m) ≡ true → Sofar ports m found 0 16
+sofar-none ports m found l e =
+    let q : Bound m = set-bound m e in
+    record { left = 16; rest = q .bindings; long = l; room = refl; reads = q .reads; named = sym (q .named ports) }
+
+none-left : (m : List ℕ) (left at : ℕ) (bs : List Binding) → length m ≤ at → bindingsFrom 3 m left at ≡ all bs → bs ≡ []
+unfolding bindingsFrom
+none-left m zero at bs h e = let z : all [] ≡ all bs = sym (rw (le-leb (length m) at h) refl) ∙ e in cc
+none-left m (suc left) at bs h e = let z : all [] ≡ all bs = sym (rw (le-leb (length m) at h) refl) ∙ e in cc
+
+-- the next binding and those behind it
+pub record Next (m : List ℕ) (left : ℕ) (rest : List Binding) (b : Binding) (next : ℕ) : Type 0 where
+  pub later : ℕ
+  pub fewer : left ≡ suc later
+  pub behind : List Binding
+  pub splits : rest ≡ b ∷ behind
+  pub reads : bindingsFrom 3 m later next ≡ all behind
+
+refused-not : (m : List ℕ) (left at : ℕ) (bs : List Binding) {r : Refusal} → at < length m → bindingAt 3 m at ≡ Step.Refused r → bindingsFrom 3 m left at ≡ all bs → ⊥
+unfolding bindingsFrom
+refused-not m zero at bs h q e = let z : ended (seventeenth m at) ≡ all bs = sym (rw (lt-leb (length m) at h) refl) ∙ e in clash (cc)
+refused-not m (suc left) at bs {r} h q e = let z : ended r ≡ all bs = sym (rw (lt-leb (length m) at h, q) refl) ∙ e in clash (cc)
+
+one-next : (m : List ℕ) (left at : ℕ) (bs : List Binding) {b : Binding} {next : ℕ} → at < length m → bindingAt 3 m at ≡ Step.Bound b next → bindingsFrom 3 m left at ≡ all bs
+    → Next m left bs b next
+unfolding bindingsFrom
+one-next m zero at bs h q e = let z : ended (seventeenth m at) ≡ all bs = sym (rw (lt-leb (length m) at h) refl) ∙ e in clash (cc)
+one-next m (suc left) at bs {b} {next} h q e =
+    let z : prepend b (bindingsFrom 3 m left next) ≡ all bs = sym (rw (lt-leb (length m) at h, q) refl) ∙ e in
+    go (bindingsFrom 3 m left next) refl z
+  where
+    go : (x : Bindings) → bindingsFrom 3 m left next ≡ x → prepend b x ≡ all bs → Next m (suc left) bs b next
+    go (ended r) f g = clash (cc)
+    go (all cs) f g = let z : b ∷ cs ≡ bs = cc in record { later = left; fewer = refl; behind = cs; splits = sym z; reads = f }
+
+module _ {ports : ℕ} {m : List ℕ} {found : List Target} {count at : ℕ} (w : Sofar ports m found count at) where
+  pub sofar-all : length m ≤ at → (map meant (take count found) ≡ groupsOf ports m) × (count ≤ 16) × (length found ≡ 16)
+  sofar-all h =
+      let z : w .rest ≡ [] = none-left m (w .left) at (w .rest) h (w .reads) in (
+        sym (append-nil (map meant (take count found))) ∙ ap (λ (l : List Binding). map meant (take count found) ++ map (groupAt ports m) l) (sym z) ∙ w .named,
+        omega (arith, w .room),
+        w .long,
+      )
+
+  module _ (h : at < length m) {k : Step} (e : k ≡ bindingAt 3 m at) where
+    pub sofar-refused : {r : Refusal} → k ≡ Step.Refused r → ⊥
+    sofar-refused q = refused-not m (w .left) at (w .rest) h (sym e ∙ q) (w .reads)
+
+    module _ {b : Binding} {next : ℕ} (q : k ≡ Step.Bound b next) where
+      after : Next m (w .left) (w .rest) b next
+      after = one-next m (w .left) at (w .rest) h (sym e ∙ q) (w .reads)
+
+      pub sofar-low : count < 16
+      sofar-low = omega (arith, w .room, after .fewer)
+
+      pub sofar-more : (t : Target) → meant t ≡ groupAt ports m b → Sofar ports m (set found count t) (count + 1) next
+      sofar-more t p =
+          let low : count < length found = omega (arith, sofar-low, w .long) in
+          record {
+            left = after .later;
+            rest = after .behind;
+            long = length-set found count t ∙ w .long;
+            room = omega (arith, w .room, after .fewer);
+            reads = after .reads;
+            named =
+                rw (add-one count, take-suc-set found count t low)
+                (ap (λ (l : List (Option Group)). l ++ map (groupAt ports m) (after .behind)) (map-append meant (take count found) (t ∷ []))
+                ∙ append-assoc (map meant (take count found)) (meant t ∷ []) (map (groupAt ports m) (after .behind))
+                ∙ ap (λ (g : Option Group). map meant (take count found) ++ (g ∷ map (groupAt ports m) (after .behind))) p
+                ∙ ap (λ (l : List Binding). map meant (take count found) ++ map (groupAt ports m) l) (sym (after .splits)) ∙ w .named);
+          }

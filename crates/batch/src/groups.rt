@@ -16,13 +16,14 @@ use message::request::Step;
 use message::request::binding_at;
 use names::Key;
 use names::index::key_of;
+use names::places;
 use names::table::Found;
 use names::table::object;
 use names::table::type_of;
 
 // The place of a table's first object, and a key; the place NOTHING where nothing is named.
 pub struct Target {
-    pub table: u32,
+    pub table: usize,
     pub key: u64,
 }
 
@@ -31,55 +32,56 @@ pub struct Targets {
     pub all: [Target; 16],
 }
 
-pub const NOTHING: u32 = 35;
+// No object has this place.
+pub const NOTHING: usize = 35;
+
+const NO_TARGET: Target = Target { table: 35, key: 0 };
 
 // The kind of a set, and where a message's bindings start.
 pub const SET: u8 = 3;
 
 const HEAD_OCTETS: usize = 16;
 
-const NO_TARGET: Target = Target { table: 35, key: 0 };
-
-// The first object of each object's table; the three bridge timers stand together.
-const TABLES: [u32; 35] = [
-    0,
-    1,
-    2,
-    3,
-    3,
-    5,
-    6,
-    7,
-    8,
-    9,
-    9,
-    9,
-    9,
-    13,
-    14,
-    14,
-    14,
-    14,
-    18,
-    18,
-    20,
-    21,
-    22,
-    23,
-    24,
-    25,
-    26,
-    27,
-    27,
-    27,
-    27,
-    27,
-    32,
-    32,
-    32,
+// The first object of each object's table, by the object's place; the three bridge timers are one scalar.
+const TABLES: [usize; 35] = [
+    places::BRIDGE_ADDRESS,
+    places::NUM_PORTS,
+    places::BRIDGE_TYPE,
+    places::BASE_PORT,
+    places::BASE_PORT,
+    places::STP_PRIORITY,
+    places::BRIDGE_MAX_AGE, // MaxAge
+    places::BRIDGE_MAX_AGE, // HelloTime
+    places::BRIDGE_MAX_AGE, // ForwardDelay
+    places::STP_PORT,
+    places::STP_PORT,
+    places::STP_PORT,
+    places::STP_PORT,
+    places::AGING_TIME,
+    places::STATIC_ADDRESS,
+    places::STATIC_ADDRESS,
+    places::STATIC_ADDRESS,
+    places::STATIC_ADDRESS,
+    places::DEFAULT_USER_PRIORITY,
+    places::DEFAULT_USER_PRIORITY,
+    places::REGEN_USER_PRIORITY,
+    places::TRAFFIC_CLASS,
+    places::VLAN_VERSION_NUMBER,
+    places::MAX_VLAN_ID,
+    places::MAX_SUPPORTED_VLANS,
+    places::NUM_VLANS,
+    places::VLAN_NUM_DELETES,
+    places::VLAN_NAME,
+    places::VLAN_NAME,
+    places::VLAN_NAME,
+    places::VLAN_NAME,
+    places::VLAN_NAME,
+    places::PVID,
+    places::PVID,
+    places::PVID,
 ];
 
-pub fn table_at(i: usize) -> u32
+fn table_at(i: usize) -> usize
     requires { ⌜ i < 35 ⌝ }
     ensures { λ r. ⌜ (r ≡ tableOf i) × (r < 35) ⌝ }
 {
@@ -87,7 +89,7 @@ pub fn table_at(i: usize) -> u32
 }
 
 // What a name that has the object at place i as a prefix names.
-pub fn target_under(ports: u32, i: usize, name: &[u8]) -> Target
+fn target_under(ports: u32, i: usize, name: &[u8]) -> Target
     requires { ⌜ (ports ≤ 64) × (i < 35) × (4 * (7 + objectAt i .len) ≤ length (now name)) ⌝ }
     ensures { λ r. ⌜ meant r ≡ placed i (keyIn ports (objectAt i .shape) (restOf i (subids (now (name .entry))))) ⌝ }
 {

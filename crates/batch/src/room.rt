@@ -16,25 +16,31 @@ use super::frames::message_at;
 use super::frames::targets_at;
 use super::groups::Targets;
 use super::groups::is_among;
+use block::layout::MOST_ROWS;
 use block::reads::static_count;
 use block::reads::vlan_count;
 use get::instances::exists;
 use names::Shape;
+use names::places::STATIC_ADDRESS;
+use names::places::VLAN_NAME;
 
+// The growing tables.
 pub enum Grows {
     Vlan,
     Static,
 }
 
-fn first_column(t: Grows) -> u32
+// The place of a table's first column.
+fn first_column(t: Grows) -> usize
     ensures { λ r. ⌜ r ≡ firstColumn (tableFor t) ⌝ }
 {
     match t {
-        Grows::Vlan => 27,
-        Grows::Static => 14,
+        Grows::Vlan => VLAN_NAME,
+        Grows::Static => STATIC_ADDRESS,
     }
 }
 
+// The shape of a table's index.
 fn shape_of(t: Grows) -> Shape
     ensures { λ r. ⌜ r ≡ shapeOf (tableFor t) ⌝ }
 {
@@ -44,6 +50,7 @@ fn shape_of(t: Grows) -> Shape
     }
 }
 
+// How many rows a table has.
 fn row_count(block: &[u8], t: Grows) -> usize
     requires { ⌜ legal (now block) ≡ true ⌝ }
     ensures { λ r. ⌜ (r ≡ length (rowsOf (tableFor t) (contentOf (now (block .entry))))) × (r ≤ 256) ⌝ }
