@@ -1,0 +1,11 @@
+pub mod NameLaws
+pub mod PairLaws
+pub mod CheckLaws
+pub mod TurnLaws
+pub mod TargetLaws
+pub mod ReadingLaws
+pub mod RoomLaws
+pub mod SearchLaws
+pub mod CallLaws
+pub mod Theorems
+pub mod Example
