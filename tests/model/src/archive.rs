@@ -1,5 +1,6 @@
 //! The library's calls, of the archive that this program is linked with: one function over slices for each call of include/refbridge.h.
 
+use crate::batches::Batch;
 use crate::datagram_calls::Given;
 use crate::model::calls::Returned;
 use crate::model::console::Taken;
@@ -55,6 +56,7 @@ calls! {
     fn rb_to_datagram(message: *const u8, len: usize, community: *const u8, community_len: usize, room: *mut u8, room_len: usize) -> Result;
     fn rb_console_take(state: *mut u8, state_len: usize, chunk: *const u8, chunk_len: usize, room: *mut u8, room_len: usize) -> Taken;
     fn rb_console_reset(state: *mut u8, state_len: usize) -> Result;
+    fn rb_check_batch(block: *const u8, block_len: usize, batch: *const u8, batch_len: usize) -> Batch;
     fn rb_compare_walks(reference: *const u8, reference_len: usize, device: *const u8, device_len: usize, list: *mut u8, list_len: usize) -> Walks;
 }
 
@@ -121,6 +123,10 @@ pub fn console_take(state: &mut [u8], chunk: &[u8], room: &mut [u8]) -> Taken {
 
 pub fn console_reset(state: &mut [u8]) -> Returned {
     returned(unsafe { rb_console_reset(state.as_mut_ptr(), state.len()) })
+}
+
+pub fn check_batch(block: &[u8], batch: &[u8]) -> Batch {
+    unsafe { rb_check_batch(block.as_ptr(), block.len(), batch.as_ptr(), batch.len()) }
 }
 
 pub fn compare_walks(reference: &[u8], device: &[u8], list: &mut [u8]) -> Walks {
