@@ -7,7 +7,7 @@
 /* What is wanted of a call: milliseconds, and octets of stack. */
 enum { MOST_MILLISECONDS = 10, MOST_STACK = 4096 };
 
-enum { MESSAGES = 64, FRAME_HEAD = 5, BATCH_MAX = MESSAGES * (FRAME_HEAD + RB_MESSAGE_MAX), PRIORITIES = 8, COLUMNS = 4, ABSENT_MAX = 255 };
+enum { FRAME_HEAD = 5, BATCH_MAX = RB_BATCH_MAX * (FRAME_HEAD + RB_MESSAGE_MAX), PRIORITIES = 8, COLUMNS = 4, ABSENT_MAX = 255 };
 
 /* A batch in octets, and the block that it is for. */
 struct batch {
@@ -86,7 +86,7 @@ static void make_batch(struct batch *batch, size_t kind, const struct bridge *fr
     batch->title = kinds[kind].title;
     batch->block = kinds[kind].full ? full->block : fresh->block;
     batch->length = 0;
-    for (uint32_t m = 0; m < MESSAGES; m++) {
+    for (uint32_t m = 0; m < RB_BATCH_MAX; m++) {
         add_message(batch, m, kinds[kind].add);
     }
 }

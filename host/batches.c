@@ -23,7 +23,7 @@ enum {
 };
 
 /* A frame is 7F, 00, 02, the message's length in two octets, and the message. One message more than a batch can have shows that there are too many. */
-enum { FRAME_HEAD = 5, MESSAGES_MAX = 64, KEPT_MAX = MESSAGES_MAX + 1, SHOWN_MAX = 100 };
+enum { FRAME_HEAD = 5, KEPT_MAX = RB_BATCH_MAX + 1, SHOWN_MAX = 100 };
 
 static const char usage[] = "usage: batches FILE...    (FILE - is standard input; a manifest stands for its files)\n"
                             "status: 0 any order, 1 some order must be kept, 2 unreadable, 3 no set, 4 output lost\n";
@@ -48,7 +48,7 @@ static struct gathering gathering;
 
 static const char *table_name(uint32_t table)
 {
-    return table == 1 ? "VLAN" : "static";
+    return table == RB_TABLE_VLAN ? "VLAN" : "static";
 }
 
 /* The start of a command, as much as a terminal shows of it. */

@@ -3,7 +3,7 @@
 #include "random.h"
 #include "space.h"
 
-enum { PLAYS = 2500, FRAME_HEAD = 5, MESSAGES_MAX = 64, BLOCK_SPACE = 40960, BATCH_SPACE = 655360, NUMBERS = 24 };
+enum { PLAYS = 2500, FRAME_HEAD = 5, BLOCK_SPACE = 40960, BATCH_SPACE = 655360, NUMBERS = 24 };
 
 static struct guarded block, batch;
 static unsigned calls, accepted, pairs, short_of_room, numbers[NUMBERS];
@@ -24,7 +24,7 @@ static void add_frame(const struct octets *message)
 /* Sets, at times damaged, and at times a get; their number may be one that a batch cannot have. */
 static void make_batch(void)
 {
-    uint32_t frames = chance(12) == 0 ? MESSAGES_MAX - 1 + chance(4) : chance(5);
+    uint32_t frames = chance(12) == 0 ? RB_BATCH_MAX - 1 + chance(4) : chance(5);
     int hurt = chance(2) == 0;
     struct octets message;
 
@@ -62,11 +62,11 @@ static void judge(rb_batch is)
     int pair = is.first != 0 || is.second != 0;
 
     REQUIRE(is.number == 0 || is.number == RB_BLOCK_NOT_LEGAL || in_message || (is.number >= RB_CONSOLE_WRONG && is.number < NUMBERS), "number %u", is.number);
-    REQUIRE(in_message ? is.message >= 1 && is.message <= MESSAGES_MAX && is.offset <= RB_MESSAGE_MAX : is.message == 0 && is.offset == 0,
+    REQUIRE(in_message ? is.message >= 1 && is.message <= RB_BATCH_MAX && is.offset <= RB_MESSAGE_MAX : is.message == 0 && is.offset == 0,
             "number %u with message %u, offset %u", is.number, is.message, is.offset);
     REQUIRE(is.number == 0 || (!pair && is.table == 0), "refusal %u with a pair or a table", is.number);
-    REQUIRE(!pair || (is.first >= 1 && is.first < is.second && is.second <= MESSAGES_MAX && is.table == 0), "pair %u, %u", is.first, is.second);
-    REQUIRE(is.table <= 2, "table %u", is.table);
+    REQUIRE(!pair || (is.first >= 1 && is.first < is.second && is.second <= RB_BATCH_MAX && is.table == 0), "pair %u, %u", is.first, is.second);
+    REQUIRE(is.table <= RB_TABLE_STATIC, "table %u", is.table);
     numbers[is.number]++;
     accepted += is.number == 0 && !pair && is.table == 0;
     pairs += pair;
