@@ -8,7 +8,7 @@ use crate::generate::sets::{careful, faulty};
 use crate::generate::start;
 use crate::model::bridge::{Bridge, MOST_ROWS};
 use crate::model::console::{frame, HEADER};
-use crate::model::message::{write_request, Binding, Kind, Request, LONGEST};
+use crate::model::message::{write_request, Binding, Content, Kind, Request, LONGEST};
 use crate::random::Random;
 
 /// A fresh bridge, or one with numbers and rows of all kinds; its tables are often full or nearly so.
@@ -73,11 +73,7 @@ fn changed(random: &mut Random, bridge: &Bridge, old: &[u8]) -> Vec<u8> {
         3 => frame(&a_set(random, many_bindings)),
         4 => frame(&a_set(random, wrong_inside)),
         5 => frame(&noise(random)),
-        6 => {
-            let kind = random.pick(&[Kind::Get, Kind::GetNext]);
-            let asking = Request { kind, ..request };
-            frame(&if random.chance(50) { write_request(&asking) } else { damaged(random, &asking) })
-        }
+        6 => frame(&asking(random, request)),
         7 => frame(&[]),
         8 => {
             let octets = LONGEST - 1 + random.below(4);
@@ -86,6 +82,19 @@ fn changed(random: &mut Random, bridge: &Bridge, old: &[u8]) -> Vec<u8> {
         9 => old[..random.below(old.len())].to_vec(),
         10 => old[..random.below(HEADER)].to_vec(),
         _ => other_header(random, old),
+    }
+}
+
+/// A get or a get-next, as it should be or damaged behind its kind too.
+fn asking(random: &mut Random, request: Request) -> Vec<u8> {
+    let kind = random.pick(&[Kind::Get, Kind::GetNext]);
+    let mut bindings = request.bindings;
+    bindings.iter_mut().for_each(|binding| binding.content = Content::Null);
+    let request = Request { kind, id: request.id, bindings };
+    if random.chance(50) {
+        write_request(&request)
+    } else {
+        damaged(random, &request)
     }
 }
 
