@@ -7,7 +7,7 @@ use crate::model::bridge::{Bridge, MOST_ROWS};
 use crate::model::console::{HEADER, HEADER_WRONG, LENGTH_OVER, MARK};
 use crate::model::message::{read, Binding, LONGEST, WRONG_HEAD};
 use crate::model::names::split;
-use crate::model::terms::{named_by, Named};
+use crate::model::terms::Named;
 use std::collections::{BTreeMap, BTreeSet};
 
 /// What must have been met at least once.
@@ -117,14 +117,15 @@ impl Met {
         self.note_as("pair", true);
         let (first, second) = (said.first as usize - 1, said.second as usize - 1);
         let (ours, theirs) = (&messages[first], &messages[second]);
-        let apart = named_by(bridge.ports, ours).is_disjoint(&named_by(bridge.ports, theirs));
-        self.note_as("pair: of timers alone", apart);
         let common: BTreeSet<&Named> = names[first].intersection(&names[second]).collect();
         let of_common = |binding: &&Binding| {
             names_of(bridge, std::slice::from_ref(*binding)).iter().any(|named| common.contains(named))
         };
-        let in_both = ours.iter().any(|binding| theirs.iter().any(|other| other.name == binding.name));
-        self.note_as("pair: by other columns", !in_both && !apart);
+        // A scalar has one name, so that two timers alone are scalars in common with no name in common.
+        let one_name = ours.iter().any(|binding| theirs.iter().any(|other| other.name == binding.name));
+        let scalars = common.iter().all(|named| named.growing.is_none() && named.index == [0]);
+        self.note_as("pair: of timers alone", !one_name && scalars);
+        self.note_as("pair: by other columns", !one_name && !scalars);
         let read_only = |binding: &&Binding| split(&binding.name).is_some_and(|(found, _)| !found.writable());
         self.note_as("pair: by a read-only name", ours.iter().filter(of_common).any(|binding| read_only(&binding)));
         self.note_as(
