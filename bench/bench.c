@@ -2,10 +2,12 @@
  *
  *   bench [PORT PROCESS]      the UDP port and the process id of a running snmpd; without them it is left out
  *   bench calls WORKLOAD      only the calls of one workload, by its number, for callgrind to count
+ *   bench batch NUMBER        only the check of one batch, likewise
  *
  * bench/run builds and starts this program; docs/PERFORMANCE.md tells how to read what it prints. */
 #define _DEFAULT_SOURCE
 #include "agent.h"
+#include "batches.h"
 #include "calls.h"
 #include "figures.h"
 #include "stack.h"
@@ -315,12 +317,24 @@ static int play_one(size_t number)
     return 0;
 }
 
+/* The check of one batch, and its title. */
+static int play_batch(size_t number)
+{
+    make_bridge(&bridges[0], "64 ports, fresh", 64, false);
+    make_bridge(&bridges[1], "64 ports, full", 64, true);
+    check_one(number, &bridges[0], &bridges[1]);
+    return 0;
+}
+
 int main(int argc, char **argv)
 {
     struct agent snmpd, library;
 
     if (argc == 3 && strcmp(argv[1], "calls") == 0) {
         return play_one(strtoul(argv[2], NULL, 10));
+    }
+    if (argc == 3 && strcmp(argv[1], "batch") == 0) {
+        return play_batch(strtoul(argv[2], NULL, 10));
     }
     make_bridge(&bridges[0], "4 ports, fresh", 4, false);
     make_bridge(&bridges[1], "4 ports, full", 4, true);
@@ -346,5 +360,6 @@ int main(int argc, char **argv)
     print_walks(&bridges[BRIDGES - 1]);
     print_rules();
     print_tallies();
+    print_batches(&bridges[2], &bridges[3]);
     return 0;
 }

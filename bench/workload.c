@@ -35,13 +35,12 @@ static const struct {
     {"dot1dStpPortEnable", 3, 1},
 };
 
-/* VLAN row i of a full bridge; row 0 is the one that a fresh bridge has. */
-static uint32_t vlan_id(uint32_t i)
+uint32_t vlan_id(uint32_t i)
 {
     return 1 + 15 * i;
 }
 
-static size_t put_static_index(uint32_t *index, uint32_t row, uint32_t ports)
+size_t put_static_index(uint32_t *index, uint32_t row, uint32_t ports)
 {
     const uint32_t subs[] = {2, 0, row, row * 7 % 256, 0, row / 2, row % (ports + 1)};
 

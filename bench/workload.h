@@ -29,4 +29,10 @@ struct bridge {
 /* Sets up a bridge, fills its tables if they are to be full, and writes its requests. */
 void make_bridge(struct bridge *bridge, const char *title, uint32_t ports, bool full);
 
+/* VLAN row i of a full bridge; row 0 is the one that a fresh bridge has. */
+uint32_t vlan_id(uint32_t i);
+
+/* The index of a static row of a full bridge, and how many sub-ids it has. */
+size_t put_static_index(uint32_t *index, uint32_t row, uint32_t ports);
+
 #endif

@@ -25,6 +25,7 @@ static const char *const refusals[] = {
     [RB_DATAGRAM_LONG] = "datagram too long",
     [RB_CONSOLE_WRONG] = "frame wrong",
     [RB_CONSOLE_LONG] = "frame too long",
+    [RB_BATCH_LONG] = "over 64 messages",
     [RB_NOT_ASCENDING] = "walk not strictly ascending",
     [RB_LIST_SHORT] = "list longer than its room",
 };

@@ -6,7 +6,7 @@
 
 #include "text.h"
 
-/* The name of a refusal 1 to 22, or NULL. */
+/* The name of a refusal 1 to 25, or NULL. */
 const char *refusal_name(uint32_t number);
 
 /* True for 4 to 8, which have the offset where the request broke; with every other return the offset is 0. */

@@ -218,6 +218,7 @@ static void play_line(struct turn *turn, struct place after)
 {
     struct player *player = turn->player;
 
+    player->line = turn->line;
     stopping_note(turn->script->file, turn->line.number, turn->line.text);
     turn_start(turn, after);
     if (turn->command.kind == COMMAND_CASE) {
@@ -262,7 +263,6 @@ void player_play_case(struct player *player, const struct script *script, struct
         if (turn.command.kind == COMMAND_CASE) {
             return;
         }
-        player->line = turn.line;
         play_line(&turn, place);
         if (player->differed_at == 0 && turn.differences > 0) {
             player->differed_at = turn.line.number;

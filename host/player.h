@@ -26,7 +26,7 @@ struct player {
     size_t differences; /* of those, and flaws of calls */
     witness *witness;   /* or NULL */
     bool stopped;       /* by the witness: nothing more is asked */
-    struct line line;   /* the command of a case that is played */
+    struct line line;   /* the command that is played */
     size_t differed_at; /* the line of the first command of a case that differed, or 0 */
     struct progress progress;
     struct bridge bridge;

@@ -1,16 +1,15 @@
 /* Measures the calls for datagrams: reading a get, answering it, writing the answer, for one binding and for 16, on a fresh bridge with 4 ports; and how
  * far down the stack the three calls write. bench/datagrams/run builds and starts this program. */
 #define _DEFAULT_SOURCE
-#include <pthread.h>
 #include <stdio.h>
 #include <stdlib.h>
 #include <string.h>
-#include <sys/mman.h>
 #include <time.h>
 
+#include "depth.h"
 #include "refbridge.h"
 
-enum { ROUNDS = 21, CALLS = 2000, STACK = 1 << 18, PATTERN = 0xA5, SPARED = 256 };
+enum { ROUNDS = 21, CALLS = 2000 };
 
 static uint8_t block[RB_BLOCK_SIZE], request[RB_MESSAGE_MAX], message[RB_MESSAGE_MAX], answer[RB_MESSAGE_MAX], out[RB_MESSAGE_MAX];
 static size_t request_len;
@@ -126,46 +125,25 @@ static void measure(unsigned bindings)
     putchar('\n');
 }
 
-static __attribute__((noinline)) void paint(uint8_t *stack)
+/* Makes the call of a step. */
+static void make_call(const void *with)
 {
-    volatile uint8_t *end = (uint8_t *)__builtin_frame_address(0) - SPARED;
-
-    for (volatile uint8_t *at = stack; at < end; at++) {
-        *at = PATTERN;
-    }
+    (*(void (*const *)(void))with)();
 }
 
-static __attribute__((noinline)) size_t depth_of(uint8_t *stack, void (*call)(void))
-{
-    const uint8_t *frame = __builtin_frame_address(0);
-    const volatile uint8_t *lowest = stack;
-
-    paint(stack);
-    call();
-    while (*lowest == PATTERN) {
-        lowest++;
-    }
-    return (size_t)(frame - lowest);
-}
-
-static void *measure_stack(void *stack)
+static void measure_stack(void)
 {
     for (size_t i = 0; i < sizeof steps / sizeof *steps; i++) {
-        printf("%s %s %zu", i == 0 ? "stack in octets:" : ",", steps[i].title, depth_of(stack, steps[i].call));
+        printf("%s %s %zu", i == 0 ? "stack in octets:" : ",", steps[i].title, depth_of(make_call, &steps[i].call));
     }
     putchar('\n');
-    return NULL;
 }
 
 int main(void)
 {
     static const uint8_t address[RB_ADDRESS_SIZE];
-    pthread_attr_t settings;
-    pthread_t thread;
-    uint8_t *stack = mmap(NULL, STACK, PROT_READ | PROT_WRITE, MAP_PRIVATE | MAP_ANONYMOUS | MAP_STACK, -1, 0);
 
     need(rb_setup(block, sizeof block, 4, address, sizeof address).number == 0, "no bridge");
-    need(stack != MAP_FAILED && pthread_attr_init(&settings) == 0 && pthread_attr_setstack(&settings, stack, STACK) == 0, "no stack");
     for (unsigned bindings = 1; bindings <= RB_BINDINGS_MAX; bindings += RB_BINDINGS_MAX - 1) {
         make_request(bindings);
         for (size_t i = 0; i < sizeof steps / sizeof *steps; i++) {
@@ -174,7 +152,6 @@ int main(void)
         need(read_as.number == 0 && answered.number == 0 && written.number == 0 && answer[14] == 0, "a call is refused");
         measure(bindings);
     }
-    need(pthread_create(&thread, &settings, measure_stack, stack) == 0, "no thread");
-    pthread_join(thread, NULL);
+    measure_stack();
     return 0;
 }

@@ -1,64 +1,15 @@
 /* Calls and resets with damaged blocks, requests and rooms. Each buffer stands between two pages that must not be touched, once at the front page and once at
  * the back page, so that one octet read or written outside it ends the program. Nothing may be written on a refusal, nor behind an answer. */
-#define _DEFAULT_SOURCE
-#include <sys/mman.h>
-#include <unistd.h>
-
-#include "requests.h"
+#include "random.h"
+#include "space.h"
 
 enum { SPACE = 40960 };
 
 /* Where a block has its number of static rows, and the rows (docs/LAYOUT.md). */
 enum { STATIC_COUNT_AT = 12, STATIC_COUNT_END = 16, STATICS_AT = 21556, STATICS_END = 25652 };
 
-/* Octets between two guard pages, with a copy of what they held before a call. */
-struct guarded {
-    uint8_t *space;
-    uint8_t *octets;
-    size_t length;
-    uint8_t before[SPACE];
-};
-
 static struct guarded block, request, room;
 static unsigned calls, resets_with_rows, numbers[11];
-static uint64_t state = 1;
-
-/* xorshift: the same inputs in every run of a seed */
-static uint32_t chance(uint32_t below)
-{
-    state ^= state << 13;
-    state ^= state >> 7;
-    state ^= state << 17;
-    return (uint32_t)((state >> 33) % below);
-}
-
-static void make_space(struct guarded *g)
-{
-    size_t page = (size_t)sysconf(_SC_PAGESIZE);
-    uint8_t *all = mmap(NULL, SPACE + 2 * page, PROT_NONE, MAP_PRIVATE | MAP_ANONYMOUS, -1, 0);
-    REQUIRE(all != MAP_FAILED && SPACE % page == 0, "no memory");
-    REQUIRE(mprotect(all + page, SPACE, PROT_READ | PROT_WRITE) == 0, "no pages");
-    g->space = all + page;
-}
-
-/* Puts octets at the front or at the back of the space. */
-static void lend(struct guarded *g, const uint8_t *octets, size_t length, int back)
-{
-    g->octets = back ? g->space + SPACE - length : g->space;
-    g->length = length;
-    memcpy(g->octets, octets, length);
-    memcpy(g->before, octets, length);
-}
-
-static int kept_part(const struct guarded *g, size_t from, size_t end)
-{
-    return memcmp(g->octets + from, g->before + from, end - from) == 0;
-}
-
-static int kept(const struct guarded *g, size_t from)
-{
-    return kept_part(g, from, g->length);
-}
 
 static void call(void)
 {
@@ -121,56 +72,6 @@ static void play_reset(const uint8_t *b, size_t b_len)
     }
 }
 
-/* A name of one of these objects, or of none; most indexes are small, and some have a sub-id too many. */
-static struct name random_name(void)
-{
-    static const char *const objects[] = {"dot1dStpPriority", "dot1dStpPortPriority", "dot1dStaticStatus", "dot1dRegenUserPriority", "dot1qVlanStaticRowStatus",
-        "dot1qVlanStaticName", "dot1qVlanStaticEgressPorts", "dot1qPvid", "dot1dBasePort", "dot1dBridge"};
-    const char *object = objects[chance(sizeof objects / sizeof objects[0])];
-    size_t count = object_index_subs(object_called(object)) + (chance(12) == 0);
-    uint32_t index[INDEX_SUBS_MAX + 1];
-    for (size_t i = 0; i < count; i++)
-        index[i] = chance(8) == 0 ? chance(5000) : chance(6);
-    return name_of(object, index, count);
-}
-
-static void random_binding(struct octets *r, enum rb_kind kind)
-{
-    struct name name = random_name();
-    struct value value = {.tag = RB_TAG_STRING, .count = chance(12) == 0 ? chance(STRING_MAX) : chance(9)};
-    for (size_t i = 0; i < STRING_MAX; i++)
-        value.octets[i] = (uint8_t)(chance(3) == 0 ? chance(256) : 0);
-    value.octets[3] = (uint8_t)chance(8);
-    if (chance(3) != 0) {
-        value.tag = chance(4) == 0 ? RB_TAG_UNSIGNED : RB_TAG_INTEGER;
-        value.count = 4;
-    }
-    request_add(r, &name, kind == RB_SET ? &value : NULL);
-}
-
-static void random_request(struct octets *r)
-{
-    static const enum rb_kind kinds[] = {RB_GET, RB_GET_NEXT, RB_SET, RB_SET};
-    enum rb_kind kind = kinds[chance(4)];
-    request_start(r, kind, chance(1000000));
-    for (uint32_t n = chance(8) == 0 ? chance(19) : chance(4); n > 0; n--)
-        random_binding(r, kind);
-}
-
-/* Changes, cuts or lengthens a request. */
-static void damage(struct octets *r)
-{
-    for (uint32_t n = 1 + chance(3); n > 0; n--) {
-        uint32_t at = chance((uint32_t)r->count + 1);
-        if (chance(3) == 0)
-            r->count = at;
-        else if (chance(3) == 0 && r->count < OCTETS_MAX)
-            r->at[r->count++] = (uint8_t)chance(0x40);
-        else if (at < r->count)
-            r->at[at] = (uint8_t)(chance(2) == 0 ? chance(256) : r->at[at] ^ (1u << chance(8)));
-    }
-}
-
 /* Strings that nobody asked for, so that some requests are too long. */
 static void put_padding(struct octets *r)
 {
@@ -194,11 +95,12 @@ static void play_bridge(uint32_t ports)
 {
     static uint8_t own[RB_BLOCK_SIZE], hurt[SPACE];
     static const uint8_t address[RB_ADDRESS_SIZE] = {2, 0, 0, 0, 0, 1};
+    static const enum rb_kind kinds[] = {RB_GET, RB_GET_NEXT, RB_SET, RB_SET};
     struct octets r;
     REQUIRE(rb_setup(own, sizeof own, ports, address, sizeof address).number == 0, "set-up");
     make_static_rows(own);
     for (unsigned i = 0; i < 400; i++) {
-        random_request(&r);
+        random_request(&r, kinds[chance(4)]);
         if (chance(3) == 0)
             damage(&r);
         if (chance(60) == 0)
@@ -235,10 +137,10 @@ static void play_setup(void)
 int main(int argc, char **argv)
 {
     if (argc > 1)
-        state = strtoull(argv[1], NULL, 10) * 2 + 1;
-    make_space(&block);
-    make_space(&request);
-    make_space(&room);
+        chance_seed(strtoull(argv[1], NULL, 10) * 2 + 1);
+    guarded_make(&block, SPACE);
+    guarded_make(&request, SPACE);
+    guarded_make(&room, SPACE);
     static const uint32_t ports[] = {1, 4, 8, 9, 33, 63, 64};
     for (size_t i = 0; i < sizeof ports / sizeof ports[0]; i++)
         play_bridge(ports[i]);

@@ -2,36 +2,15 @@
  * them ends the program. A refusal writes nothing, an accepted event changes the state of one case at most and no id. */
 #define _DEFAULT_SOURCE
 #include <stdbool.h>
-#include <sys/mman.h>
 #include <unistd.h>
 
-#include "requests.h"
+#include "random.h"
+#include "space.h"
 
 enum { PLAYS = 4000, EVENTS = 40, LONGEST = RB_CASES_MAX + 1, NUMBERS = 16 };
 
 static rb_case before[LONGEST];
 static unsigned events, reports, numbers[NUMBERS];
-static uint64_t state = 1;
-
-/* xorshift: the same runs in every run of a seed */
-static uint32_t chance(uint32_t below)
-{
-    state ^= state << 13;
-    state ^= state >> 7;
-    state ^= state << 17;
-    return (uint32_t)((state >> 33) % below);
-}
-
-/* Octets between two pages that must not be touched. */
-static uint8_t *make_space(size_t size)
-{
-    size_t page = (size_t)sysconf(_SC_PAGESIZE);
-    uint8_t *all = mmap(NULL, size + 2 * page, PROT_NONE, MAP_PRIVATE | MAP_ANONYMOUS, -1, 0);
-
-    REQUIRE(all != MAP_FAILED && size % page == 0, "no memory");
-    REQUIRE(mprotect(all + page, size, PROT_READ | PROT_WRITE) == 0, "no pages");
-    return all + page;
-}
 
 /* Ascending ids, a new run, or a damaged one. */
 static void fill(rb_case *cases, size_t count, uint8_t *ended)
@@ -114,7 +93,7 @@ int main(int argc, char **argv)
     size_t page = (size_t)sysconf(_SC_PAGESIZE), size = LONGEST * sizeof(rb_case);
     uint8_t *list = make_space(size), *mark = make_space(page);
 
-    state = argc == 2 ? strtoull(argv[1], NULL, 10) : 1;
+    chance_seed(argc == 2 ? strtoull(argv[1], NULL, 10) : 1);
     for (unsigned i = 0; i < PLAYS; i++) {
         play(list, mark, size, page);
     }

@@ -13,17 +13,58 @@ fn main() {
         println!("cargo:rerun-if-changed={folder}/librefbridge.a");
     }
     println!("cargo:rerun-if-changed=build.rs");
-    if env::var("CARGO_FEATURE_WALK_MUTANTS").is_ok() {
-        println!("cargo:rerun-if-changed=walk_mutants");
-        println!("cargo:rerun-if-changed=src/walks");
-        make_walk_mutants(Path::new(&env::var("OUT_DIR").unwrap()));
+    println!("cargo:rerun-if-env-changed=REFBRIDGE_FAULTS");
+    for subject in SUBJECTS {
+        if env::var(format!("CARGO_FEATURE_{}", subject.edits.to_uppercase())).is_ok() {
+            println!("cargo:rerun-if-changed={}", subject.edits);
+            println!("cargo:rerun-if-changed={}", subject.source);
+            make_mutants(&subject, Path::new(&env::var("OUT_DIR").unwrap()));
+        }
     }
-    if env::var("CARGO_FEATURE_MUTANTS").is_ok() {
-        println!("cargo:rerun-if-changed=mutants");
-        println!("cargo:rerun-if-changed=src/model");
-        println!("cargo:rerun-if-env-changed=REFBRIDGE_FAULTS");
-        make_mutants(Path::new(&env::var("OUT_DIR").unwrap()));
-    }
+}
+
+/// A folder of edits, which a feature of the same name asks for, and what they change.
+struct Subject {
+    edits: &'static str,
+    /// The part of the model that is copied for each edit.
+    source: &'static str,
+    /// The modules of a copy; none where all of them are copied.
+    modules: Option<&'static str>,
+    /// The type of a call under test, or of a table of them.
+    kind: &'static str,
+    /// The call of a copy, by the copy's name.
+    call: fn(&str) -> String,
+}
+
+const SUBJECTS: [Subject; 3] = [
+    Subject { edits: "mutants", source: "src/model", modules: None, kind: "Library", call: library },
+    Subject {
+        edits: "walk_mutants",
+        source: "src/walks",
+        modules: Some("pub mod compare;\npub mod read;\n"),
+        kind: "Compare",
+        call: comparison,
+    },
+    Subject {
+        edits: "batch_mutants",
+        source: "src/batches",
+        modules: Some("pub mod judge;\n"),
+        kind: "Check",
+        call: |copy| format!("{copy}::judge::check"),
+    },
+];
+
+fn library(copy: &str) -> String {
+    let calls = ["set_up", "answer", "reset", "to_256ths", "to_hundredths"];
+    format!("Library {{ {} }}", calls.map(|call| format!("{call}: {copy}::calls::{call}")).join(", "))
+}
+
+/// A copy has a result type of its own.
+fn comparison(copy: &str) -> String {
+    let fields = ["number", "side", "offset", "tail_at", "tail_len", "reference_only", "switch_only", "differing"]
+        .map(|field| format!("{field}: w.{field}"));
+    let walks = format!("Walks {{ {} }}", fields.join(", "));
+    format!("|a, b, list| {{ let w = {copy}::compare::compare(a, b, list); {walks} }}")
 }
 
 /// A text of one file of the model, and what stands in its place in the mutant.
@@ -52,26 +93,27 @@ fn chosen(at: usize) -> bool {
     at % of == first - 1
 }
 
-fn make_mutants(out: &Path) {
+fn make_mutants(subject: &Subject, out: &Path) {
     let mut modules = String::new();
-    let mut table = String::from("pub const MUTANTS: &[(&str, Library)] = &[\n");
-    for (at, path) in edits_of("mutants").iter().enumerate() {
+    let mut table = format!("pub const MUTANTS: &[(&str, {})] = &[\n", subject.kind);
+    for (at, path) in edits_of(subject.edits).iter().enumerate() {
         let edit = read_edit(path);
-        stands_once(&edit, "src/model", path);
+        stands_once(&edit, subject.source, path);
         if !chosen(at) {
             continue;
         }
-        let module = format!("mutant_{}", at + 1);
-        let folder = out.join(&module);
-        copy_changed(&edit, "src/model", &folder);
+        let copy = format!("{}_{}", subject.edits, at + 1);
+        let folder = out.join(&copy);
+        copy_changed(&edit, subject.source, &folder);
         let root = folder.join("mod.rs");
-        modules += &format!("#[allow(dead_code, unused)]\n#[path = {root:?}]\nmod {module};\n");
-        let calls = ["set_up", "answer", "reset", "to_256ths", "to_hundredths"]
-            .map(|call| format!("{call}: {module}::calls::{call}"));
+        if let Some(modules) = subject.modules {
+            fs::write(&root, modules).unwrap();
+        }
+        modules += &format!("#[allow(dead_code, unused)]\n#[path = {root:?}]\nmod {copy};\n");
         let what = format!("{}: {}", path.file_stem().unwrap().to_str().unwrap(), edit.what);
-        table += &format!("    ({what:?}, Library {{ {} }}),\n", calls.join(", "));
+        table += &format!("    ({what:?}, {}),\n", (subject.call)(&copy));
     }
-    fs::write(out.join("mutants.rs"), format!("{modules}{table}];\n")).unwrap();
+    fs::write(out.join(format!("{}.rs", subject.edits)), format!("{modules}{table}];\n")).unwrap();
 }
 
 /// An edit that no longer fits the model stops the build, whether it is chosen or not.
@@ -79,30 +121,6 @@ fn stands_once(edit: &Edit, source: &str, path: &Path) {
     let text = fs::read_to_string(Path::new(source).join(&edit.file)).unwrap();
     let found = text.matches(&edit.old).count();
     assert_eq!(found, 1, "{}: its old text stands {found} times in {}", path.display(), edit.file);
-}
-
-/// The model of a comparison of two walks, changed: its reading and its comparing.
-fn make_walk_mutants(out: &Path) {
-    let fields = ["number", "side", "offset", "tail_at", "tail_len", "reference_only", "switch_only", "differing"]
-        .map(|field| format!("{field}: w.{field}"));
-    let mut modules = String::new();
-    let mut table = String::from("pub const MUTANTS: &[(&str, Compare)] = &[\n");
-    for (at, path) in edits_of("walk_mutants").iter().enumerate() {
-        let edit = read_edit(path);
-        let module = format!("walk_mutant_{}", at + 1);
-        let folder = out.join(&module);
-        stands_once(&edit, "src/walks", path);
-        copy_changed(&edit, "src/walks", &folder);
-        let root = folder.join("mod.rs");
-        fs::write(&root, "pub mod compare;\npub mod read;\n").unwrap();
-        modules += &format!("#[allow(dead_code, unused)]\n#[path = {root:?}]\nmod {module};\n");
-        let call = format!(
-            "|a, b, list| {{ let w = {module}::compare::compare(a, b, list); Walks {{ {} }} }}",
-            fields.join(", ")
-        );
-        table += &format!("    ({:?}, {call}),\n", edit.what);
-    }
-    fs::write(out.join("walk_mutants.rs"), format!("{modules}{table}];\n")).unwrap();
 }
 
 fn edits_of(folder: &str) -> Vec<PathBuf> {

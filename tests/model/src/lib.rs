@@ -1,5 +1,7 @@
 //! An ordinary implementation of the reference bridge, and what the differential test needs beside it.
 
+pub mod archive;
+pub mod batches;
 pub mod case_file;
 pub mod datagram;
 pub mod datagram_calls;

@@ -1,5 +1,6 @@
 //! The calls under test, as a table of functions: the linked library, or the model itself behind octets.
 
+use crate::archive;
 use crate::model::calls;
 pub use crate::model::calls::Returned;
 
@@ -29,66 +30,11 @@ pub const MUTANTS: &[(&str, Library)] = &[];
 
 /// None where this program was built without the library.
 pub fn linked() -> Option<Library> {
-    #[cfg(linked)]
-    return Some(archive::LIBRARY);
-    #[cfg(not(linked))]
-    None
-}
-
-#[cfg(linked)]
-mod archive {
-    use super::{Library, Returned};
-
-    #[repr(C)]
-    struct Result {
-        number: u32,
-        count: u32,
-        offset: u32,
-    }
-
-    #[link(name = "refbridge", kind = "static")]
-    extern "C" {
-        fn rb_setup(block: *mut u8, block_len: usize, ports: u32, address: *const u8, address_len: usize) -> Result;
-        fn rb_answer(
-            block: *mut u8,
-            block_len: usize,
-            request: *const u8,
-            request_len: usize,
-            room: *mut u8,
-            room_len: usize,
-        ) -> Result;
-        fn rb_reset(block: *mut u8, block_len: usize) -> Result;
-        fn rb_to_256ths(hundredths: u32) -> Result;
-        fn rb_to_hundredths(ticks: u32) -> Result;
-    }
-
-    pub const LIBRARY: Library = Library { set_up, answer, reset, to_256ths, to_hundredths };
-
-    fn returned(result: Result) -> Returned {
-        (result.number, result.count, result.offset)
-    }
-
-    // Each slice is valid for its length, and they do not overlap: that is all the header asks.
-    fn set_up(block: &mut [u8], ports: u32, address: &[u8]) -> Returned {
-        returned(unsafe { rb_setup(block.as_mut_ptr(), block.len(), ports, address.as_ptr(), address.len()) })
-    }
-
-    fn answer(block: &mut [u8], request: &[u8], room: &mut [u8]) -> Returned {
-        let (block_len, room_len) = (block.len(), room.len());
-        returned(unsafe {
-            rb_answer(block.as_mut_ptr(), block_len, request.as_ptr(), request.len(), room.as_mut_ptr(), room_len)
-        })
-    }
-
-    fn reset(block: &mut [u8]) -> Returned {
-        returned(unsafe { rb_reset(block.as_mut_ptr(), block.len()) })
-    }
-
-    fn to_256ths(hundredths: u32) -> Returned {
-        returned(unsafe { rb_to_256ths(hundredths) })
-    }
-
-    fn to_hundredths(ticks: u32) -> Returned {
-        returned(unsafe { rb_to_hundredths(ticks) })
-    }
+    archive::linked(Library {
+        set_up: archive::set_up,
+        answer: archive::answer,
+        reset: archive::reset,
+        to_256ths: archive::to_256ths,
+        to_hundredths: archive::to_hundredths,
+    })
 }

@@ -25,7 +25,8 @@ pub enum Event {
     Refused(u32),
 }
 
-/// What a call returns.
+/// What a call returns, field by field as the header has it.
+#[repr(C)]
 #[derive(Clone, Copy, Debug, Default, PartialEq)]
 pub struct Taken {
     pub number: u32,

@@ -54,7 +54,8 @@ impl Bridge {
             && self.statics.len() + absent(GrowingTable::Static) <= MOST_ROWS
     }
 
-    fn live(&self, row: &Named) -> bool {
+    /// Whether a row stands in the bridge; rows of tables that do not grow always do.
+    pub fn live(&self, row: &Named) -> bool {
         let column = match row.growing {
             Some(GrowingTable::Vlan) => Object::VlanRowStatus,
             Some(GrowingTable::Static) => Object::StaticStatus,

@@ -104,7 +104,7 @@ impl Check {
         let said = (self.calls.event)(lent.cases(), &mut given, event, id);
         self.compared += 1;
         let whole = Lent::new(&cases, mark).space;
-        if said != [number, 0, 0] || given != mark || lent.space != whole {
+        if said != (number, 0, 0) || given != mark || lent.space != whole {
             let shown = if before.len() < 20 { format!("{before:?}") } else { format!("{} cases", before.len()) };
             return Err(format!(
                 "event {event} {id} on {shown}, mark {}: {said:?}, not {number}; or list or mark",

@@ -2,8 +2,9 @@
 
 use super::calls::{Calls, STAND_IN};
 use super::model::{self, Case, Report, BROKEN, CRASH, END, FAIL, FAILED, PASS, RUNNING, START};
+use crate::model::calls::Returned;
 
-type Event = fn(&mut [Case], &mut u8, u32, u32) -> [u32; 3];
+type Event = fn(&mut [Case], &mut u8, u32, u32) -> Returned;
 type Reporting = fn(&[Case], u8) -> Report;
 
 pub const FAULTS: [(&str, Calls); 14] = [
@@ -50,58 +51,58 @@ fn refused_counts(cases: &[Case], mark: u8) -> Report {
     Report { broken: if report.number == 0 { report.broken } else { 1 }, ..report }
 }
 
-fn closes_as_failed(by: u32, cases: &mut [Case], mark: &mut u8, event: u32, id: u32) -> [u32; 3] {
+fn closes_as_failed(by: u32, cases: &mut [Case], mark: &mut u8, event: u32, id: u32) -> Returned {
     let running = cases.iter().position(|case| case.state == RUNNING);
     let number = model::event(cases, mark, event, id);
     if let (0, true, Some(at)) = (number, event == by, running) {
         assert_eq!(cases[at].state, BROKEN);
         cases[at].state = FAILED;
     }
-    [number, 0, 0]
+    (number, 0, 0)
 }
 
-fn any_verdict(cases: &mut [Case], mark: &mut u8, event: u32, id: u32) -> [u32; 3] {
+fn any_verdict(cases: &mut [Case], mark: &mut u8, event: u32, id: u32) -> Returned {
     let runs = cases.iter().find(|case| case.state == RUNNING).map(|case| case.id);
     let listed = cases.iter().any(|case| case.id == id);
     let named = if matches!(event, PASS | FAIL) && listed { runs.unwrap_or(id) } else { id };
-    [model::event(cases, mark, event, named), 0, 0]
+    (model::event(cases, mark, event, named), 0, 0)
 }
 
-fn two_running(cases: &mut [Case], mark: &mut u8, event: u32, id: u32) -> [u32; 3] {
+fn two_running(cases: &mut [Case], mark: &mut u8, event: u32, id: u32) -> Returned {
     let number = model::event(cases, mark, event, id);
     if let (12, Some(case)) = (number, cases.iter_mut().find(|case| case.id == id && case.state == 0)) {
         case.state = START;
-        return [0, 0, 0];
+        return (0, 0, 0);
     }
-    [number, 0, 0]
+    (number, 0, 0)
 }
 
-fn exchanged(cases: &mut [Case], mark: &mut u8, event: u32, id: u32) -> [u32; 3] {
+fn exchanged(cases: &mut [Case], mark: &mut u8, event: u32, id: u32) -> Returned {
     match model::event(cases, mark, event, id) {
-        12 => [13, 0, 0],
-        13 => [12, 0, 0],
-        number => [number, 0, 0],
+        12 => (13, 0, 0),
+        13 => (12, 0, 0),
+        number => (number, 0, 0),
     }
 }
 
-fn judged_first(first: u32, cases: &mut [Case], mark: &mut u8, event: u32, id: u32) -> [u32; 3] {
+fn judged_first(first: u32, cases: &mut [Case], mark: &mut u8, event: u32, id: u32) -> Returned {
     if model::refusals(cases, *mark, event, id).contains(&first) {
-        return [first, 0, 0];
+        return (first, 0, 0);
     }
-    [model::event(cases, mark, event, id), 0, 0]
+    (model::event(cases, mark, event, id), 0, 0)
 }
 
-fn refused_end(cases: &mut [Case], mark: &mut u8, event: u32, id: u32) -> [u32; 3] {
+fn refused_end(cases: &mut [Case], mark: &mut u8, event: u32, id: u32) -> Returned {
     let number = model::event(cases, mark, event, id);
     if event == END {
         *mark = 1;
     }
-    [number, 0, 0]
+    (number, 0, 0)
 }
 
-fn one_case_less(cases: &mut [Case], mark: &mut u8, event: u32, id: u32) -> [u32; 3] {
+fn one_case_less(cases: &mut [Case], mark: &mut u8, event: u32, id: u32) -> Returned {
     if cases.len() == model::LONGEST {
-        return [15, 0, 0];
+        return (15, 0, 0);
     }
-    [model::event(cases, mark, event, id), 0, 0]
+    (model::event(cases, mark, event, id), 0, 0)
 }

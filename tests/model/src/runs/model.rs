@@ -8,6 +8,8 @@ pub struct Case {
     pub state: u32,
 }
 
+/// What a report returns, field by field as the header has it.
+#[repr(C)]
 #[derive(Clone, Copy, Debug, Default, PartialEq, Eq)]
 pub struct Report {
     pub number: u32,

@@ -1,5 +1,7 @@
 //! The two calls under test: those of the linked library, or the model with a seeded fault.
 
+use refbridge_model::archive;
+use refbridge_model::model::calls::Returned;
 use refbridge_model::model::console::{self, Taken, HEADER_WRONG, LENGTH_OVER, ROOM_SHORT};
 use refbridge_model::model::message::LONGEST;
 
@@ -7,67 +9,15 @@ use refbridge_model::model::message::LONGEST;
 #[derive(Clone, Copy)]
 pub struct Calls {
     pub take: fn(&mut [u8], &[u8], &mut [u8]) -> Taken,
-    pub reset: fn(&mut [u8]) -> (u32, u32, u32),
+    pub reset: fn(&mut [u8]) -> Returned,
 }
 
 /// None where this program was built without the library.
 pub fn linked() -> Option<Calls> {
-    #[cfg(linked)]
-    return Some(archive::CALLS);
-    #[cfg(not(linked))]
-    None
+    archive::linked(Calls { take: archive::console_take, reset: archive::console_reset })
 }
 
-#[cfg(linked)]
-mod archive {
-    use super::{Calls, Taken};
-
-    #[repr(C)]
-    struct Console {
-        number: u32,
-        taken: u32,
-        complete: u32,
-        count: u32,
-    }
-
-    #[repr(C)]
-    struct Result {
-        number: u32,
-        count: u32,
-        offset: u32,
-    }
-
-    #[link(name = "refbridge", kind = "static")]
-    extern "C" {
-        fn rb_console_take(
-            state: *mut u8,
-            state_len: usize,
-            chunk: *const u8,
-            chunk_len: usize,
-            room: *mut u8,
-            room_len: usize,
-        ) -> Console;
-        fn rb_console_reset(state: *mut u8, state_len: usize) -> Result;
-    }
-
-    pub const CALLS: Calls = Calls { take, reset };
-
-    // Each slice is valid for its length, and they do not overlap: that is all the header asks.
-    fn take(state: &mut [u8], chunk: &[u8], room: &mut [u8]) -> Taken {
-        let (state_len, room_len) = (state.len(), room.len());
-        let Console { number, taken, complete, count } = unsafe {
-            rb_console_take(state.as_mut_ptr(), state_len, chunk.as_ptr(), chunk.len(), room.as_mut_ptr(), room_len)
-        };
-        Taken { number, taken, complete, count }
-    }
-
-    fn reset(state: &mut [u8]) -> (u32, u32, u32) {
-        let result = unsafe { rb_console_reset(state.as_mut_ptr(), state.len()) };
-        (result.number, result.count, result.offset)
-    }
-}
-
-fn reset(state: &mut [u8]) -> (u32, u32, u32) {
+fn reset(state: &mut [u8]) -> Returned {
     (console::reset(state), 0, 0)
 }
 
@@ -168,7 +118,7 @@ fn bad_made_fresh(state: &mut [u8], chunk: &[u8], room: &mut [u8]) -> Taken {
     result
 }
 
-fn reset_in_part(state: &mut [u8]) -> (u32, u32, u32) {
+fn reset_in_part(state: &mut [u8]) -> Returned {
     let result = reset(&mut state.to_vec());
     if result.0 == 0 {
         state[..console::HEADER].fill(0);
