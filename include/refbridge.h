@@ -229,25 +229,6 @@ enum rb_walk_entry {
  * not overlap; the two walks may be one. */
 rb_walks rb_compare_walks(const uint8_t *reference, size_t reference_len, const uint8_t *device, size_t device_len, uint8_t *list, size_t list_len);
 
-/* What the checker of batches returns. Accepted: all fields 0. With the number 0 either a pair is given, or, where no pair offends, a table; all else is 0. */
-typedef struct {
-    uint32_t number;  /* 0, 3 to 8, or 21 to 23 */
-    uint32_t message; /* with 4 to 8: the message's number, from 1 */
-    uint32_t offset;  /* with 4 to 8: from that message's first octet */
-    uint32_t first;   /* the first two messages that name a common row or scalar, by their numbers from 1, the lower number first */
-    uint32_t second;
-    uint32_t table; /* one of rb_table: the first table that has not room for all absent rows that the messages name */
-} rb_batch;
-
-/* The tables that grow, in the order in which they are judged. */
-enum rb_table { RB_TABLE_VLAN = 1, RB_TABLE_STATIC = 2 };
-
-/* Checks whether the set messages of a batch may be played in any order on a block: every message is readable, no two name a common row or scalar (the three
- * bridge timers are one scalar), and in each table that grows the live rows and the absent rows that are named are at most 256. The batch is at most 64
- * messages, each in a frame as on the serial console. Returns 0, 3, and then, from the left, 21 to 23 for frames and 4 to 8 for messages; a message that is
- * no set is 7. It writes nothing. Block and batch may overlap. */
-rb_batch rb_check_batch(const uint8_t *block, size_t block_len, const uint8_t *batch, size_t batch_len);
-
 /* What reading a datagram returns: one of rb_number, the length of the message in the room, and where the community stands in the datagram. All but the
  * number are 0 unless the number is 0. */
 typedef struct {
