@@ -15,11 +15,15 @@ one-or-none : (t : Bool) → cond t 1 0 ≤ 1
 one-or-none true = omega arith
 one-or-none false = omega arith
 
+-- a row counts once at the most
+pub one-at-most : (status : ℕ) → oneIfActive status ≤ 1
+one-at-most status = one-or-none (eqb status 1)
+
 -- as many as there are rows at the most
 pub active-few : (vs : List (ℕ × VlanRow)) → activeVlans vs ≤ length vs
 unfolding activeVlans
 active-few [] = omega arith
-active-few (e ∷ es) = omega (arith, one-or-none (eqb (e .1 .status) 1), active-few es)
+active-few (e ∷ es) = omega (arith, one-at-most (e .1 .status), active-few es)
 
 active-append : (xs ys : List (ℕ × VlanRow)) → activeVlans (xs ++ ys) ≡ activeVlans xs + activeVlans ys
 unfolding activeVlans
