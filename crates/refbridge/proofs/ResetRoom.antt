@@ -30,7 +30,7 @@ volatileTo zero t = t
 volatileTo (suc n) t = volatileTo n ((suc n * 256, record { status = 4; allowed = 0 }) ∷ t)
 
 abbrev pub volatile : List ℕ → Content
-volatile a = withStatics (fresh 4 a) (volatileTo 255 ((256 * 256, record { status = 3; allowed = 0 }) ∷ []))
+volatile a = withStatics (fresh fourPorts a) (volatileTo 255 ((256 * 256, record { status = 3; allowed = 0 }) ∷ []))
 
 pub record RoomAgain (a : List ℕ) : Type 0 where
   pub many : length (volatile a .statics) ≡ 256
