@@ -170,7 +170,13 @@ pub turned-storable : (c : Content) (i : ℕ) → Storable c → i ≤ length (c
 turned-storable c i s h =
     let l : length (closing (take i (c .statics)) (c .statics)) ≡ length (c .statics) = length-closing (c .statics) i h in
     record {
-      shape = record { cellCount = s .shape .cellCount; fewVlans = s .shape .fewVlans; fewStatics = omega (arith, s .shape .fewStatics) };
+      shape =
+          record {
+            cellCount = s .shape .cellCount;
+            fewVlans = s .shape .fewVlans;
+            fewStatics = omega (arith, s .shape .fewStatics);
+            statusFits = s .shape .statusFits;
+          };
       fewPorts = s .fewPorts;
       addressSize = s .addressSize;
       deletesFit = s .deletesFit;
