@@ -12,7 +12,7 @@ use Rattle.names.specs.Order.{isPrefix}
 use Rattle.names.specs.Index.{within, weight, digits, number, keyIn, upFrom}
 use Rattle.names.specs.Table.{objects, placeUnder, placeOf}
 use Rattle.names.specs.Places.{bridgeMaxAge, bridgeHelloTime, bridgeForwardDelay, isTimer}
-use Rattle.block.specs.Content.{Content}
+use Rattle.block.specs.Content.{Content, modelOf}
 use Rattle.block.specs.Cells.{cellsIn, cellOf, timerIn}
 use Rattle.block.specs.Image.{contentOf}
 use Rattle.block.specs.Valid.{second, together, timersOk, legal}
