@@ -39,7 +39,8 @@ step-one v = rw (mod-one v)
 pub takes-unstepped : (e : ℕ) (o : ObjectType) (v : ℕ) → stepIn e o ≡ 1 → takes e o v ≡ inRange o v
 takes-unstepped e o v h = rw (h, step-one v, and-true (inRange o v))
 
-step-is : (e : ℕ) (o : ObjectType) → o .step ≡ 1 → stepIn e o ≡ 1
+-- an object without steps has the step 1 in both editions
+pub step-is : (e : ℕ) (o : ObjectType) → o .step ≡ 1 → stepIn e o ≡ 1
 step-is e o h = go (eqb e newEdition)
   where
     go : (b : Bool) → cond b (o .step) 1 ≡ 1
