@@ -20,7 +20,7 @@ use Rattle.block.specs.declared.rows.StaticRow.{StaticRow}
 use Rattle.answer.specs.Writes.{those, ordered, has, count, full, play, playRow}
 use Rattle.answer.specs.Judge.{reading, tableFrom, tableOf, alone, among, judgedFrom}
 use Rattle.answer.specs.Set.{gather, rowFault, firstFault, verdict, setCells, apply, after}
-use Rattle.answer.specs.Cases.{staticStatus}
+use Rattle.answer.specs.Cases.{fourPorts, staticStatus}
 use Rattle.answer.proofs.Cases.{says, leaves, accepted, fault}
 use Rattle.reset.specs.Reset.{stay, afterReset}
 
