@@ -18,6 +18,7 @@ use Rattle.block.specs.Content.{Content, modelOf}
 use Rattle.block.specs.Cells.{cellsIn, cellOf, timerIn}
 use Rattle.block.specs.Image.{contentOf}
 use Rattle.block.specs.Valid.{second, together, timersOk, valid, legal}
+use Rattle.names.proofs.RuleLaws.{takes-range}
 use Rattle.block.proofs.ValidParts.{valid-parts}
 use Rattle.block.proofs.RoundLaws.{legal-valid}
 use Rattle.block.proofs.KeepLaws.{cells-in}
@@ -52,7 +53,7 @@ timer-high = by-timer (λ t. objectAt t .high < 256 ^ 4) (lit≤ tt) (lit≤ tt)
 timer-number : (c : Content) → valid c ≡ true → (t : ℕ) → isTimer t ≡ true → timerGot c t ≡ timerIn (c .cells) t
 timer-number c ok t e =
     let v : ℕ = timerIn (c .cells) t in
-    let r = cells-in c ok t 0 (timer-has (c .ports) t e) in
+    let r = takes-range (c .edition) (objectAt t) v (cells-in c ok t 0 (timer-has (c .ports) t e)) in
     let few : v ≤ objectAt t .high = leb-true v (objectAt t .high) (both (leb (objectAt t .low) v) (leb v (objectAt t .high)) r .1) in
     ap (λ (x : Value). beAt (x .1) 0 4) (timer-got c t e) ∙ beAt-beOctets 4 v (omega (arith, few, timer-high t e))
 
