@@ -13,7 +13,7 @@ use Rattle.names.specs.Table.{objectAt}
 use Rattle.names.specs.Instances.{instanceName}
 use Rattle.names.specs.declared.Shape.the-variants.{Vlan, Static}
 use Rattle.names.proofs.InstanceLaws.{All}
-use Rattle.block.specs.Content.{Content}
+use Rattle.block.specs.Content.{Content, modelOf}
 use Rattle.block.specs.Lookup.{lookup}
 use Rattle.block.specs.Valid.{valid, vlanOk, staticOk}
 use Rattle.block.proofs.ValidParts.{Valid, valid-parts}
@@ -65,14 +65,14 @@ absent-none : {R : Type 0} (o : Option R) → present o ≡ false → o ≡ none
 absent-none none e = refl
 absent-none (some r) e = absurd (true≢false e)
 
-pub made-start : (c : Content) (bs : List Asked) → valid c ≡ true → All (λ b. Octets (b .content)) bs → verdict c (judged (c .ports) bs) .status ≡ 0
-    → (t : Table) (k : ℕ) (f : Field t) → present (lookup k (rowsOf t c)) ≡ false → present (lookup k (rowsOf t (after c (judged (c .ports) bs)))) ≡ true
+pub made-start : (c : Content) (bs : List Asked) → valid c ≡ true → All (λ b. Octets (b .content)) bs → verdict c (judged (modelOf c) bs) .status ≡ 0
+    → (t : Table) (k : ℕ) (f : Field t) → present (lookup k (rowsOf t c)) ≡ false → present (lookup k (rowsOf t (after c (judged (modelOf c) bs)))) ≡ true
     → All (λ b. b .name ≡ columnName t k f → ⊥) bs
-    → get (after c (judged (c .ports) bs)) (columnName t k f) ≡ startOf (c .ports) t k (columnPlace t (field f))
+    → get (after c (judged (modelOf c) bs)) (columnName t k f) ≡ startOf (c .ports) t k (columnPlace t (field f))
 unfolding apply
 made-start c bs ok o e t k f was now un =
     let n : ℕ = c .ports in
-    let m : List Judged = judged n bs in
+    let m : List Judged = judged (modelOf c) bs in
     let few = valid-parts c ok .fewPorts in
     let ws : List (ℕ × ColumnOf t) = writesTo t m in
     let applied : after c m ≡ apply c m = accepted-applies c m (eq-eqb (verdict c m .status) 0 e) in
@@ -85,5 +85,5 @@ made-start c bs ok o e t k f was now un =
     (row-got t (apply c m) k (field f) (can-row t (apply c m) k fine there)
     ∙ ap (λ (x : Option (Row t)). held (Option·map (shows n t (field f)) x)) row
     ∙ ap held (field-started (statusStep n t) (fieldStep t) k ws (shows n t (field f)) (startOf n t k (columnPlace t (field f))) (starts n t k f)
-    (λ y. eqb (columnPlace t y) (columnPlace t (field f))) (field-quiet n t f) (judged-unnamed n few t (columnPlace t (field f)) k bs un) (judged-single n few bs t)
+    (λ y. eqb (columnPlace t y) (columnPlace t (field f))) (field-quiet n t f) (judged-unnamed (modelOf c) few t (columnPlace t (field f)) k bs un) (judged-single (modelOf c) few bs t)
     (sym (ap present row) ∙ there)))

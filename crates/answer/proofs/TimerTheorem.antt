@@ -14,10 +14,11 @@ use Rattle.names.specs.Order.{isPrefix}
 use Rattle.names.specs.Index.{within, weight, digits, number, keyIn, upFrom}
 use Rattle.names.specs.Table.{objects, objectAt, placeUnder, placeOf}
 use Rattle.names.specs.Places.{bridgeMaxAge, bridgeHelloTime, bridgeForwardDelay, isTimer}
-use Rattle.block.specs.Content.{Content}
+use Rattle.block.specs.Content.{Content, modelOf}
 use Rattle.block.specs.Cells.{cellsIn, cellOf, timerIn}
 use Rattle.block.specs.Image.{contentOf}
 use Rattle.block.specs.Valid.{second, together, timersOk, valid, legal}
+use Rattle.names.proofs.RuleLaws.{takes-range}
 use Rattle.block.proofs.ValidParts.{valid-parts}
 use Rattle.block.proofs.RoundLaws.{legal-valid}
 use Rattle.block.proofs.KeepLaws.{cells-in}
@@ -38,10 +39,10 @@ timer-got c = by-timer (λ t. get c (timerName t) ≡ integer (timerIn (c .cells
 
 -- a timer that no binding names is left as it was
 pub timer-left : (c : Content) (bs : List Asked) → c .ports ≤ 64 → (t : ℕ) → isTimer t ≡ true → All (λ b. b .name ≡ timerName t → ⊥) bs
-    → get (after c (judged (c .ports) bs)) (timerName t) ≡ get c (timerName t)
+    → get (after c (judged (modelOf c) bs)) (timerName t) ≡ get c (timerName t)
 timer-left c bs few t e h =
-    timer-got (after c (judged (c .ports) bs)) t e
-    ∙ ap integer (cells-after c (judged (c .ports) bs) (cellOf t 0) (judged-no-cell (c .ports) few t 0 (timer-has (c .ports) t e) bs h))
+    timer-got (after c (judged (modelOf c) bs)) t e
+    ∙ ap integer (cells-after c (judged (modelOf c) bs) (cellOf t 0) (judged-no-cell (modelOf c) few t 0 (timer-has (c .ports) t e) bs h))
     ∙ sym (timer-got c t e)
 
 timer-high : (t : ℕ) → isTimer t ≡ true → objectAt t .high < 256 ^ 4
@@ -52,7 +53,7 @@ timer-high = by-timer (λ t. objectAt t .high < 256 ^ 4) (lit≤ tt) (lit≤ tt)
 timer-number : (c : Content) → valid c ≡ true → (t : ℕ) → isTimer t ≡ true → timerGot c t ≡ timerIn (c .cells) t
 timer-number c ok t e =
     let v : ℕ = timerIn (c .cells) t in
-    let r = cells-in c ok t 0 (timer-has (c .ports) t e) in
+    let r = takes-range (c .edition) (objectAt t) v (cells-in c ok t 0 (timer-has (c .ports) t e)) in
     let few : v ≤ objectAt t .high = leb-true v (objectAt t .high) (both (leb (objectAt t .low) v) (leb v (objectAt t .high)) r .1) in
     ap (λ (x : Value). beAt (x .1) 0 4) (timer-got c t e) ∙ beAt-beOctets 4 v (omega (arith, few, timer-high t e))
 

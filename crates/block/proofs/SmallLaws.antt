@@ -1,7 +1,7 @@
 -- Two cells that are read as one number: whether both hold 0 to 7. Assumes nothing.
 use mathlib.Core.Path.{_≡_, refl, sym, ap, _∙_}
 use mathlib.Core.Bool.{Bool, true, false, _&&_, and-assoc}
-use mathlib.Core.List.{List}
+use mathlib.Core.List.{List, [], _∷_}
 use Prim.Native.Nat.{ℕ, _+_, _*_, _/_, _%_, _^_, _≤_, _<_}
 use native.Mathlib.Omega.{arith}
 use lib.Bits.{bitAnd, and-block, and-high}
@@ -10,9 +10,11 @@ use lib.ListN.{length, getD, take, drop}
 use borrow.Author.Tests.{le-leb, leb-true, leb-false, eq-eqb, ne-eqb}
 use Rattle.octets.specs.Numbers.{beAt}
 use Rattle.octets.proofs.NumberLaws.{Octets, beAt-more, beAt-one, beAt-lt}
+use Rattle.names.specs.Rule.{inRange, inSteps}
+use Rattle.names.proofs.RuleLaws.{step-one}
 use Rattle.names.specs.declared.table.ObjectType.{ObjectType}
 use Rattle.block.specs.Image.{contentOf}
-use Rattle.block.specs.Valid.{every, inRange, isSmall}
+use Rattle.block.specs.Valid.{every, isSmall}
 use Rattle.block.proofs.ReadLaws.{cell-is}
 use Rattle.block.proofs.LegalLaws.{every-turn}
 
@@ -87,3 +89,9 @@ every-small o d e xs = λ z. every (λ v. same v z) xs
   where
     same : (v : ℕ) → inRange o v ≡ isSmall v
     same v = rw (d, e, le-leb 0 v (omega arith))
+
+-- a step of 1 leaves nothing to test
+pub every-unstepped : (s : ℕ) → s ≡ 1 → (xs : List ℕ) → every (inSteps s) xs ≡ true
+unfolding every
+every-unstepped s e [] = refl
+every-unstepped s e (x ∷ xs) = rw (e, step-one x) (rw e at (every-unstepped s e xs))

@@ -1,11 +1,13 @@
-// Sets up blocks of 1, 8, 9, 63 and 64 ports and prints their octets, 16 a line, without the lines of zeros.
+// Sets up blocks of the older edition with 1, 8, 9, 63 and 64 ports and prints their octets, 16 a line, without the lines of zeros.
 ghost use Prim.Native.Nat.{_+_, _≤_};
 ghost use lib.ListN.{length};
+use block::model::Model;
 use block::setup::set_up;
 use io::print_decimal;
 use io::print_hex;
 use io::write_all;
 use libc::STDOUT_FILENO;
+use names::rule::OLD_EDITION;
 use octets::parts::all_zero;
 
 // The 16 octets from index at on.
@@ -35,7 +37,11 @@ fn say_block(block: &[u8]) {
 fn show(n: u32) {
     let mut block = [255u8; 32768];
     let address = [2u8, 0, 94, 16, 0, 1];
-    set_up(&mut block, n, &address);
+    let model = Model {
+        ports: n,
+        edition: OLD_EDITION,
+    };
+    set_up(&mut block, model, &address);
     write_all(STDOUT_FILENO, b"ports ");
     print_decimal(STDOUT_FILENO, n as u64);
     write_all(STDOUT_FILENO, b"\n");

@@ -20,7 +20,7 @@ use Rattle.block.specs.declared.rows.StaticRow.{StaticRow}
 use Rattle.answer.specs.Writes.{those, ordered, has, count, full, play, playRow}
 use Rattle.answer.specs.Judge.{reading, tableFrom, tableOf, alone, among, judgedFrom}
 use Rattle.answer.specs.Set.{gather, rowFault, firstFault, verdict, setCells, apply, after}
-use Rattle.answer.specs.Cases.{staticStatus}
+use Rattle.answer.specs.Cases.{fourPorts, staticStatus}
 use Rattle.answer.proofs.Cases.{says, leaves, accepted, fault}
 use Rattle.reset.specs.Reset.{stay, afterReset}
 
@@ -30,7 +30,7 @@ volatileTo zero t = t
 volatileTo (suc n) t = volatileTo n ((suc n * 256, record { status = 4; allowed = 0 }) ∷ t)
 
 abbrev pub volatile : List ℕ → Content
-volatile a = withStatics (fresh 4 a) (volatileTo 255 ((256 * 256, record { status = 3; allowed = 0 }) ∷ []))
+volatile a = withStatics (fresh fourPorts a) (volatileTo 255 ((256 * 256, record { status = 3; allowed = 0 }) ∷ []))
 
 pub record RoomAgain (a : List ℕ) : Type 0 where
   pub many : length (volatile a .statics) ≡ 256

@@ -178,6 +178,7 @@ turned-storable c i s h =
             statusFits = s .shape .statusFits;
           };
       fewPorts = s .fewPorts;
+      editionFits = s .editionFits;
       addressSize = s .addressSize;
       deletesFit = s .deletesFit;
       cellsFit = s .cellsFit;

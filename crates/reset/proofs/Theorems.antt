@@ -20,7 +20,7 @@ use Rattle.block.proofs.ValidParts.{Valid, valid-parts}
 use Rattle.block.proofs.KeepLaws.{RowsOk, rowsOk-parts, parts-rowsOk, rowsOk-rising, valid-statics}
 use Rattle.block.proofs.RoundLaws.{contentOf-image, legal-image, legal-valid}
 use Rattle.reset.specs.Reset.{goes, stay, afterReset, resetBlock}
-use Rattle.reset.specs.Theorems.{ResetKeepsLegal, ResetTwice, rowAfter, ResetRows}
+use Rattle.reset.specs.Theorems.{ResetKeepsLegal, ResetKeepsEdition, ResetTwice, rowAfter, ResetRows}
 use Rattle.reset.proofs.ResetLaws.{stay-short, all-stay, rising-stay, stay-twice}
 
 least-zero : (ks : List ℕ) → All (λ k. 0 ≤ k) ks
@@ -50,6 +50,13 @@ pub keeps-legal : ResetKeepsLegal
 keeps-legal b e =
     let v : valid (afterReset (contentOf b)) ≡ true = reset-valid (contentOf b) (legal-valid b e .0) in
     (rw (legal-reset b e) (legal-image (afterReset (contentOf b)) v), ap contentOf (legal-reset b e) ∙ contentOf-image (afterReset (contentOf b)) v)
+
+pub keeps-edition : ResetKeepsEdition
+keeps-edition b = go (legal b) refl
+  where
+    go : (t : Bool) → legal b ≡ t → contentOf (resetBlock b) .edition ≡ contentOf b .edition
+    go true e = ap (λ (c : Content). c .edition) (keeps-legal b e .1)
+    go false e = ap (λ (t : Bool). contentOf (cond t (image (afterReset (contentOf b))) b) .edition) e
 
 pub twice : ResetTwice
 twice b = go (legal b) refl

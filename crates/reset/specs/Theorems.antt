@@ -15,6 +15,10 @@ use Rattle.reset.specs.Reset.{goes, afterReset, resetBlock}
 abbrev pub ResetKeepsLegal : Type 0
 ResetKeepsLegal = (b : List ℕ) → legal b ≡ true → (legal (resetBlock b) ≡ true) × (contentOf (resetBlock b) ≡ afterReset (contentOf b))
 
+-- "No call but set-up changes a block's edition" (E4), here a reset, of any octets.
+abbrev pub ResetKeepsEdition : Type 0
+ResetKeepsEdition = (b : List ℕ) → contentOf (resetBlock b) .edition ≡ contentOf b .edition
+
 -- "Resetting twice equals resetting once", of any octets.
 abbrev pub ResetTwice : Type 0
 ResetTwice = (b : List ℕ) → resetBlock (resetBlock b) ≡ resetBlock b
