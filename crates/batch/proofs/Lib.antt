@@ -1,6 +1,9 @@
 pub mod NameLaws
 pub mod PairLaws
 pub mod CheckLaws
+pub mod FrameLaws
+pub mod OrderLaws
+pub mod AcceptLaws
 pub mod TurnLaws
 pub mod TargetLaws
 pub mod ReadingLaws

@@ -1,4 +1,4 @@
--- Batches for a fresh bridge of four ports and any address (paper 02, E10), as a named statement; `proofs/Example.antt` proves it. Assumes nothing.
+-- Batches for a fresh bridge of four ports and any address (paper 02, E10 and E13), as a named statement; `proofs/Example.antt` proves it. Assumes nothing.
 use Prim.Native.Nat.{ℕ}
 use mathlib.Core.Path.{_≡_}
 use mathlib.Core.List.{List, [], _∷_, _++_}
@@ -9,6 +9,7 @@ use Rattle.answer.specs.Cases.{asked, egress, rowStatus, staticStatus, priority
 use Rattle.console.specs.Frames.{frame}
 use Rattle.console.specs.Batch.{mostFrames}
 use Rattle.batch.specs.declared.RbBatch.{RbBatch}
+use Rattle.batch.specs.Order.{Turn, Plays, SameInAll}
 use Rattle.batch.specs.Check.{accepted, offending, refusedWith, checkBatch}
 
 -- messages in their frames, one behind the other
@@ -35,6 +36,8 @@ pub record Batches (a : List ℕ) : Type 0 where
   -- "The empty batch is accepted", and so is this one
   pub empty : checkBatch (image (fresh 4 a)) [] ≡ accepted
   pub takes : checkBatch (image (fresh 4 a)) (framed three) ≡ accepted
+  -- so all its orders give the same (E13)
+  pub orders : (xs ys : List Turn) → Plays three xs → Plays three ys → SameInAll (image (fresh 4 a)) xs ys
   -- the timers count as one scalar; a row is named by any of its columns
   pub timers : checkBatch (image (fresh 4 a)) (framed (setOf [] ∷ maxAge ∷ setOf (priority 0 0x10 0 ∷ []) ∷ helloTime ∷ [])) ≡ offending 2 4
   pub row : checkBatch (image (fresh 4 a)) (framed (three ++ (tenAgain ∷ maxAge ∷ helloTime ∷ []))) ≡ offending 1 4
