@@ -31,7 +31,7 @@ use Rattle.answer.specs.Get.{elem, get}
 use Rattle.answer.specs.Writes.{those, ordered, has, count, full, play, playRow}
 use Rattle.answer.specs.Judge.{Asked, reading, tableFrom, tableOf, alone, among as namedBefore, judgedFrom, groupOf}
 use Rattle.answer.specs.Set.{gather, rowFault, firstFault, verdict, setCells, apply, after}
-use Rattle.answer.specs.Cases.{under, ofVlan, ofStatic, egress, rowStatus, staticStatus, priority, getOf, setOf}
+use Rattle.answer.specs.Cases.{fourPorts, under, ofVlan, ofStatic, egress, rowStatus, staticStatus, priority, getOf, setOf}
 use Rattle.answer.proofs.EchoTheorem.{octets-every}
 use Rattle.answer.proofs.Cases.{says, leaves, accepted as free, vlansTo, staticsTo, filled, crowded, Room, room}
 use Rattle.answer.specs.Terms.{absent}
@@ -53,7 +53,7 @@ on-image c batch v = rw (legal-image c v) (ap (λ (d : Content). framesJudged d 
 
 -- the content matters by its ports and its rows' keys alone, which are known
 abbrev judgedOn : List ℕ → List ℕ → RbBatch
-judgedOn a batch = framesJudged (fresh 4 a) (framesOf mostFrames batch)
+judgedOn a batch = framesJudged (fresh fourPorts a) (framesOf mostFrames batch)
 
 computed : (a : List ℕ)
     → (judgedOn a [] ≡ accepted)
@@ -76,22 +76,22 @@ computed a = (refl, refl, refl, refl, refl, refl, refl, refl, refl, refl, refl, 
 
 pub batches : (a : List ℕ) → length a ≡ 6 → every isOctet a ≡ true → Batches a
 batches a l o =
-    let v : valid (fresh 4 a) ≡ true = valid-fresh 4 a (lit≤ tt) (lit≤ tt) l o in
+    let v : valid (fresh fourPorts a) ≡ true = valid-fresh fourPorts a (lit≤ tt) (lit≤ tt) refl l o in
     let c = computed a in
-    let takes : checkBatch (image (fresh 4 a)) (framed three) ≡ accepted = on-image (fresh 4 a) (framed three) v ∙ c .1 in
+    let takes : checkBatch (image (fresh fourPorts a)) (framed three) ≡ accepted = on-image (fresh fourPorts a) (framed three) v ∙ c .1 in
     record {
-      empty = on-image (fresh 4 a) [] v ∙ c .0;
+      empty = on-image (fresh fourPorts a) [] v ∙ c .0;
       takes = takes;
-      orders = λ xs ys p q. in-all (fresh 4 a) (accepts-exactly (image (fresh 4 a)) (framed three) .0 takes) (c .11) (c .12) xs ys p q;
-      timers = on-image (fresh 4 a) (framed (setOf [] ∷ maxAge ∷ setOf (priority 0 0x10 0 ∷ []) ∷ helloTime ∷ [])) v ∙ c .2;
-      row = on-image (fresh 4 a) (framed (three ++ (tenAgain ∷ maxAge ∷ helloTime ∷ []))) v ∙ c .3;
-      twice = on-image (fresh 4 a) (framed (setOf (egress 10 (0x80 ∷ []) ∷ egress 10 (0x80 ∷ []) ∷ []) ∷ [])) v ∙ c .4;
-      no-set = on-image (fresh 4 a) (framed (setOf [] ∷ getOf (1 ∷ 2 ∷ []) ∷ []) ++ (0 ∷ [])) v ∙ c .5;
-      wrong-frame = on-image (fresh 4 a) (framed (maxAge ∷ helloTime ∷ []) ++ (0 ∷ [])) v ∙ c .6;
-      cut-frame = on-image (fresh 4 a) (framed (maxAge ∷ []) ++ (0x7F ∷ 0 ∷ 2 ∷ 0 ∷ [])) v ∙ c .7;
-      long-frame = on-image (fresh 4 a) (framed (maxAge ∷ []) ++ (0x7F ∷ 0 ∷ 2 ∷ 5 ∷ 0xC1 ∷ [])) v ∙ c .8;
-      most-frames = on-image (fresh 4 a) (framed (replicate mostFrames (setOf []))) v ∙ c .9;
-      octet-more = on-image (fresh 4 a) (framed (replicate mostFrames (setOf [])) ++ (0 ∷ [])) v ∙ c .10;
+      orders = λ xs ys p q. in-all (fresh fourPorts a) (accepts-exactly (image (fresh fourPorts a)) (framed three) .0 takes) (c .11) (c .12) xs ys p q;
+      timers = on-image (fresh fourPorts a) (framed (setOf [] ∷ maxAge ∷ setOf (priority 0 0x10 0 ∷ []) ∷ helloTime ∷ [])) v ∙ c .2;
+      row = on-image (fresh fourPorts a) (framed (three ++ (tenAgain ∷ maxAge ∷ helloTime ∷ []))) v ∙ c .3;
+      twice = on-image (fresh fourPorts a) (framed (setOf (egress 10 (0x80 ∷ []) ∷ egress 10 (0x80 ∷ []) ∷ []) ∷ [])) v ∙ c .4;
+      no-set = on-image (fresh fourPorts a) (framed (setOf [] ∷ getOf (1 ∷ 2 ∷ []) ∷ []) ++ (0 ∷ [])) v ∙ c .5;
+      wrong-frame = on-image (fresh fourPorts a) (framed (maxAge ∷ helloTime ∷ []) ++ (0 ∷ [])) v ∙ c .6;
+      cut-frame = on-image (fresh fourPorts a) (framed (maxAge ∷ []) ++ (0x7F ∷ 0 ∷ 2 ∷ 0 ∷ [])) v ∙ c .7;
+      long-frame = on-image (fresh fourPorts a) (framed (maxAge ∷ []) ++ (0x7F ∷ 0 ∷ 2 ∷ 5 ∷ 0xC1 ∷ [])) v ∙ c .8;
+      most-frames = on-image (fresh fourPorts a) (framed (replicate mostFrames (setOf []))) v ∙ c .9;
+      octet-more = on-image (fresh fourPorts a) (framed (replicate mostFrames (setOf [])) ++ (0 ∷ [])) v ∙ c .10;
     }
   where
     in-all : (c : Content) (w : Accepted (image c) (framed three)) → framesOf mostFrames (framed three) ≡ (three, 0) → every isOctet (framed three) ≡ true
@@ -112,12 +112,12 @@ abbrev bridge : List Asked
 bridge = priority 0 0x10 0 ∷ []
 
 abbrev atEnd : List ℕ → Content
-atEnd a = leaves (leaves (leaves (fresh 4 a) ten) static) bridge
+atEnd a = leaves (leaves (leaves (fresh fourPorts a) ten) static) bridge
 
 pub record Worked (a : List ℕ) : Type 0 where
-  pub in-order : (says (fresh 4 a) ten ≡ free) × (says (leaves (fresh 4 a) ten) static ≡ free) × (says (leaves (leaves (fresh 4 a) ten) static) bridge ≡ free)
-  pub last-first : (says (fresh 4 a) bridge ≡ free) × (says (leaves (fresh 4 a) bridge) ten ≡ free) × (says (leaves (leaves (fresh 4 a) bridge) ten) static ≡ free)
-  pub one-content : leaves (leaves (leaves (fresh 4 a) bridge) ten) static ≡ atEnd a
+  pub in-order : (says (fresh fourPorts a) ten ≡ free) × (says (leaves (fresh fourPorts a) ten) static ≡ free) × (says (leaves (leaves (fresh fourPorts a) ten) static) bridge ≡ free)
+  pub last-first : (says (fresh fourPorts a) bridge ≡ free) × (says (leaves (fresh fourPorts a) bridge) ten ≡ free) × (says (leaves (leaves (fresh fourPorts a) bridge) ten) static ≡ free)
+  pub one-content : leaves (leaves (leaves (fresh fourPorts a) bridge) ten) static ≡ atEnd a
   pub holds : (get (atEnd a) (under (ofVlan 2 10)) ≡ (0x22, 0xA0 ∷ []))
       × (get (atEnd a) (under (ofVlan 5 10)) ≡ (0x21, 0 ∷ 0 ∷ 0 ∷ 1 ∷ []))
       × (get (atEnd a) (under (ofStatic 4)) ≡ (0x21, 0 ∷ 0 ∷ 0 ∷ 3 ∷ []))

@@ -7,6 +7,7 @@ use mathlib.Core.Option.{Option, none, some}
 use mathlib.Core.List.{List, [], _∷_, _++_, map}
 use lib.Dec.{eqb}
 use borrow.Author.Tests.{eqb-true, eq-eqb}
+use Rattle.block.specs.declared.model.Model.{Model}
 use Rattle.answer.specs.Get.{elem}
 use Rattle.answer.specs.Tables.{Table, vlan, static, firstColumn}
 use Rattle.answer.specs.Judge.{Asked, Judged, targetOf, groupOf, judged}
@@ -69,9 +70,9 @@ common-gives (x ∷ gs) hs e =
     record { group = t .group; left = or-right (sameGroup (some (t .group)) x) (among (some (t .group)) gs) (t .left); right = t .right })
 
 -- what a message names, by the bindings that are judged
-pub groups-judged : (n : ℕ) (m : List ℕ) → groupsOf n m ≡ map targetOf (namedBy n m)
+pub groups-judged : (d : Model) (m : List ℕ) → groupsOf (d .ports) m ≡ map targetOf (namedBy d m)
 unfolding groupsOf
-groups-judged n m = sym (judged-groups n [] (askedOf m))
+groups-judged d m = sym (judged-groups d [] (askedOf m))
 
 -- a key that a message names is among what it names
 named-here : (t k : ℕ) (r : Option Group) (ks : List ℕ) (gs : List (Option Group)) → (elem k ks ≡ true → among (some (t, k)) gs ≡ true)
@@ -95,14 +96,14 @@ indices-among t k (b ∷ m) e =
     named-here t k (targetOf b) (indices t m) (map targetOf m) (indices-among t k m) e
 
 -- two messages that name nothing in common are separate, in demand 3's terms
-pub separate-of : (n : ℕ) (a b : List ℕ) → common (groupsOf n a) (groupsOf n b) ≡ false → Separate (namedBy n a) (namedBy n b)
-separate-of n a b e t j p =
-    by-bool (elem j (indices t (namedBy n b)))
+pub separate-of : (d : Model) (a b : List ℕ) → common (groupsOf (d .ports) a) (groupsOf (d .ports) b) ≡ false → Separate (namedBy d a) (namedBy d b)
+separate-of d a b e t j p =
+    by-bool (elem j (indices t (namedBy d b)))
     (λ q.
     absurd (true≢false
-    (sym (common-of (t, j) (groupsOf n a) (groupsOf n b)
-    (ap (among (some (t, j))) (groups-judged n a) ∙ indices-among t j (namedBy n a) p)
-    (ap (among (some (t, j))) (groups-judged n b) ∙ indices-among t j (namedBy n b) q))
+    (sym (common-of (t, j) (groupsOf (d .ports) a) (groupsOf (d .ports) b)
+    (ap (among (some (t, j))) (groups-judged d a) ∙ indices-among t j (namedBy d a) p)
+    (ap (among (some (t, j))) (groups-judged d b) ∙ indices-among t j (namedBy d b) q))
     ∙ e)))
     (λ q. q)
 
@@ -111,8 +112,8 @@ unfolding keysAt indices
 keys-targets t [] = refl
 keys-targets t (b ∷ m) = ap (onto t (targetOf b)) (keys-targets t m)
 
-pub keys-named : (n : ℕ) (t : Table) (m : List ℕ) → keysAt (firstColumn t) (groupsOf n m) ≡ namedIn t (namedBy n m)
-keys-named n t m = ap (keysAt (firstColumn t)) (groups-judged n m) ∙ keys-targets (firstColumn t) (namedBy n m)
+pub keys-named : (d : Model) (t : Table) (m : List ℕ) → keysAt (firstColumn t) (groupsOf (d .ports) m) ≡ namedIn t (namedBy d m)
+keys-named d t m = ap (keysAt (firstColumn t)) (groups-judged d m) ∙ keys-targets (firstColumn t) (namedBy d m)
 
 pub keys-append : (t : ℕ) (gs hs : List (Option Group)) → keysAt t (gs ++ hs) ≡ keysAt t gs ++ keysAt t hs
 unfolding keysAt
