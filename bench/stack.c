@@ -38,7 +38,7 @@ static __attribute__((noinline)) void make_call(const struct call *call)
     static const uint8_t address[RB_ADDRESS_SIZE];
 
     if (call->request == NULL) {
-        rb_setup(call->block, RB_BLOCK_SIZE, call->ports, address, sizeof address);
+        rb_setup(call->block, RB_BLOCK_SIZE, call->ports, RB_EDITION_OLD, address, sizeof address);
     } else {
         rb_answer(call->block, RB_BLOCK_SIZE, call->request, call->length, call->room, RB_MESSAGE_MAX);
     }

@@ -103,6 +103,9 @@ enum rb_state { RB_NOT_RUN = 0, RB_RUNNING = 1, RB_PASSED = 2, RB_FAILED = 3, RB
 /* Events of a run. Start, pass and fail name a case; the id beside crash and end is not looked at. */
 enum rb_event { RB_START = 1, RB_PASS = 2, RB_FAIL = 3, RB_CRASH = 4, RB_END = 5 };
 
+/* Editions of the priority rule: the old ranges, or RFC 4188's steps of 4096 (StpPriority) and 16 (port priority). */
+enum rb_edition { RB_EDITION_OLD = 1, RB_EDITION_NEW = 2 };
+
 /* What a call returns: one of rb_number, a count that is 0 unless the number is 0, and an offset that is 0 unless the number is 4 to 8: then it tells where in
  * the request the field's tag octet is or would be, or the first octet that is left over behind a binding's two fields. */
 typedef struct {
@@ -136,7 +139,7 @@ typedef struct {
 } rb_console;
 
 /* Writes a fresh bridge into the whole block. Returns 0 or 9; the count is 0. */
-rb_result rb_setup(uint8_t *block, size_t block_len, uint32_t ports, const uint8_t *address, size_t address_len);
+rb_result rb_setup(uint8_t *block, size_t block_len, uint32_t ports, uint32_t edition, const uint8_t *address, size_t address_len);
 
 /* Answers one request: the answer stands at the start of the room and has `count` octets; the room's other octets keep theirs. A set without a fault
  * changes the block. Returns 0 to 8; a request that is answered with a fault returns 0 too, and the fault stands in the answer. */

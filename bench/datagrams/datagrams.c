@@ -164,7 +164,7 @@ int main(void)
     pthread_t thread;
     uint8_t *stack = mmap(NULL, STACK, PROT_READ | PROT_WRITE, MAP_PRIVATE | MAP_ANONYMOUS | MAP_STACK, -1, 0);
 
-    need(rb_setup(block, sizeof block, 4, address, sizeof address).number == 0, "no bridge");
+    need(rb_setup(block, sizeof block, 4, RB_EDITION_OLD, address, sizeof address).number == 0, "no bridge");
     need(stack != MAP_FAILED && pthread_attr_init(&settings) == 0 && pthread_attr_setstack(&settings, stack, STACK) == 0, "no stack");
     for (unsigned bindings = 1; bindings <= RB_BINDINGS_MAX; bindings += RB_BINDINGS_MAX - 1) {
         make_request(bindings);

@@ -5,7 +5,7 @@ pub use crate::model::calls::Returned;
 
 #[derive(Clone, Copy)]
 pub struct Library {
-    pub set_up: fn(&mut [u8], u32, &[u8]) -> Returned,
+    pub set_up: fn(&mut [u8], u32, u32, &[u8]) -> Returned,
     pub answer: fn(&mut [u8], &[u8], &mut [u8]) -> Returned,
     pub reset: fn(&mut [u8]) -> Returned,
     pub to_256ths: fn(u32) -> Returned,
@@ -48,7 +48,14 @@ mod archive {
 
     #[link(name = "refbridge", kind = "static")]
     extern "C" {
-        fn rb_setup(block: *mut u8, block_len: usize, ports: u32, address: *const u8, address_len: usize) -> Result;
+        fn rb_setup(
+            block: *mut u8,
+            block_len: usize,
+            ports: u32,
+            edition: u32,
+            address: *const u8,
+            address_len: usize,
+        ) -> Result;
         fn rb_answer(
             block: *mut u8,
             block_len: usize,
@@ -69,8 +76,8 @@ mod archive {
     }
 
     // Each slice is valid for its length, and they do not overlap: that is all the header asks.
-    fn set_up(block: &mut [u8], ports: u32, address: &[u8]) -> Returned {
-        returned(unsafe { rb_setup(block.as_mut_ptr(), block.len(), ports, address.as_ptr(), address.len()) })
+    fn set_up(block: &mut [u8], ports: u32, edition: u32, address: &[u8]) -> Returned {
+        returned(unsafe { rb_setup(block.as_mut_ptr(), block.len(), ports, edition, address.as_ptr(), address.len()) })
     }
 
     fn answer(block: &mut [u8], request: &[u8], room: &mut [u8]) -> Returned {
