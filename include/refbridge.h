@@ -44,7 +44,7 @@ enum rb_number {
     RB_LENGTH_WRONG = 6,      /* a field has a wrong length, or octets are left after a binding's two fields */
     RB_HEAD_WRONG = 7,        /* the kind is not 0, 1 or 3, or status or index is not 0 */
     RB_TOO_MANY_BINDINGS = 8, /* there is a 17th binding */
-    RB_SETUP_REFUSED = 9,     /* set-up: block not 32,768 octets, ports not 1 to 64, or address not 6 octets */
+    RB_SETUP_REFUSED = 9,     /* set-up: block not 32,768 octets, ports not 1 to 64, an unknown edition, or address not 6 octets */
     RB_TIMER_RANGE = 10,      /* a timer conversion is out of range */
     RB_EVENT_UNKNOWN = 11,    /* an unknown event, or an id that is not listed */
     RB_START_REFUSED = 12,    /* start of a case already started, or while one runs */
@@ -103,9 +103,6 @@ enum rb_state { RB_NOT_RUN = 0, RB_RUNNING = 1, RB_PASSED = 2, RB_FAILED = 3, RB
 /* Events of a run. Start, pass and fail name a case; the id beside crash and end is not looked at. */
 enum rb_event { RB_START = 1, RB_PASS = 2, RB_FAIL = 3, RB_CRASH = 4, RB_END = 5 };
 
-/* Editions of the priority rule: the old ranges, or RFC 4188's steps of 4096 (StpPriority) and 16 (port priority). */
-enum rb_edition { RB_EDITION_OLD = 1, RB_EDITION_NEW = 2 };
-
 /* What a call returns: one of rb_number, a count that is 0 unless the number is 0, and an offset that is 0 unless the number is 4 to 8: then it tells where in
  * the request the field's tag octet is or would be, or the first octet that is left over behind a binding's two fields. */
 typedef struct {
@@ -138,7 +135,15 @@ typedef struct {
     uint32_t count;
 } rb_console;
 
-/* Writes a fresh bridge into the whole block. Returns 0 or 9; the count is 0. */
+/* The editions that a bridge may follow. In the newer one StpPriority takes the multiples of 4096 from 0 to 61440 and StpPortPriority those of 16 from 0
+ * to 240; everything else is the same in both. */
+enum rb_edition {
+    RB_EDITION_OLD = 1,
+    RB_EDITION_NEW = 2
+};
+
+/* Writes a fresh bridge with `ports` ports (1 to 64) and one of rb_edition into the whole block; the address has 6 octets. The block keeps its edition:
+ * no other call changes it. Returns 0 or 9; the count is 0. */
 rb_result rb_setup(uint8_t *block, size_t block_len, uint32_t ports, uint32_t edition, const uint8_t *address, size_t address_len);
 
 /* Answers one request: the answer stands at the start of the room and has `count` octets; the room's other octets keep theirs. A set without a fault

@@ -1,5 +1,5 @@
 # The octets of a fresh block, written from docs/LAYOUT.md: 16 octets a line, lines of zeros left out.
-# Set on the command line: ports (N); the address is 02 00 5E 10 00 01.
+# Set on the command line: ports (N); the edition is 1, the address is 02 00 5E 10 00 01.
 function put(at, width, value,    i) {
     for (i = width - 1; i >= 0; i--) {
         octet[at + i] = value % 256
@@ -31,6 +31,7 @@ BEGIN {
     put(8, 4, 1)
     put(16, 1, 2); put(18, 1, 94); put(19, 1, 16); put(21, 1, 1)
     put(22, 2, 1)
+    put(24, 1, 1)
     put(32, 4, 32768); put(36, 4, 2000); put(40, 4, 200); put(44, 4, 1500)
     column(48, 128); column(304, 1); column(560, 100)
     put(816, 4, 300)
