@@ -28,7 +28,7 @@ static bool read_address(struct text *text, struct octets *octets, struct compla
     }
 }
 
-/* The words `edition E` at the end of the line, or nothing. Other editions are taken too, to try what set-up refuses. */
+/* The words `edition E` at the end of the line, or nothing. Any number is taken, to try what set-up refuses. */
 static bool read_edition(struct text *text, uint32_t *edition, struct complaint *why)
 {
     struct text word;
