@@ -199,7 +199,7 @@ static void check_outcome(const struct call *call, const struct outcome *outcome
         require(!changed, "a refusal wrote the block");
         return;
     }
-    flaw = reply_flaw(&call->request, outcome->room, outcome->result.count, ports_of(call->block));
+    flaw = reply_flaw(&call->request, outcome->room, outcome->result.count, kind_of(call->block));
     require(flaw == NULL, flaw);
     require(status < STATUSES, "a status that there is not");
     require(!changed || (request_kind(&call->request) == RB_SET && status == RB_NO_ERROR),

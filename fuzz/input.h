@@ -1,7 +1,7 @@
 /* The form of a fuzzer's input: how the bridge starts, then steps.
  *
  * The first octet: its low six bits are the number of ports less one; the bit 0x40 says that both growing tables have
- * 256 rows. Then each step is a field as in a message: a tag, two octets of length, contents. An input that is cut is
+ * 256 rows, the bit 0x80 that the bridge is of edition 2. Then each step is a field as in a message: a tag, two octets of length, contents. An input that is cut is
  * taken as far as it goes, so that every input is one. */
 #ifndef FUZZ_INPUT_H
 #define FUZZ_INPUT_H
@@ -25,7 +25,7 @@ enum step_tag {
     STEP_SIZE = 0xA3     /* two octets: the length of the block that the next request is given */
 };
 
-enum { START_PORTS = 0x3F, START_FULL = 0x40 };
+enum { START_PORTS = 0x3F, START_FULL = 0x40, START_EDITION = 0x80 };
 
 struct step {
     uint8_t tag;

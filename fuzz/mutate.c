@@ -258,6 +258,7 @@ static void change_start(struct dice *dice, struct input *input)
 
     input->start = (uint8_t)(ports[below(dice, sizeof ports)] - 1);
     input->start |= once_in(dice, 3) ? START_FULL : 0;
+    input->start |= once_in(dice, 3) ? START_EDITION : 0;
 }
 
 static void change_input(struct dice *dice, struct input *input)

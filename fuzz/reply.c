@@ -46,16 +46,17 @@ static bool is_index(const struct object *object, const uint32_t *index, size_t 
     }
 }
 
-/* True where the object's row of the table allows the value: its type, and its range or length. */
-static bool is_value(const struct object *object, const struct value *value)
+/* True where the object's row of the table allows the value: its type, its range or length, and in edition 2 its step. */
+static bool is_value(const struct object *object, const struct value *value, uint32_t edition)
 {
     uint32_t size = value->tag == RB_TAG_STRING ? (uint32_t)value->count : number_of(value);
+    uint32_t step = edition == RB_EDITION_NEW ? object_step(object) : 1;
 
-    return value->tag == object->tag && size >= object->low && size <= object->high;
+    return value->tag == object->tag && size >= object->low && size <= object->high && size % step == 0;
 }
 
 /* True for an instance of the object table with a value that it can have. */
-static bool is_instance(const struct binding *binding, uint32_t ports)
+static bool is_instance(const struct binding *binding, struct bridge_kind kind)
 {
     const struct object *object = name_object(&binding->name);
     size_t before;
@@ -64,8 +65,8 @@ static bool is_instance(const struct binding *binding, uint32_t ports)
         return false;
     }
     before = BRIDGE_SUBS + (size_t)object->count;
-    return is_index(object, binding->name.sub + before, binding->name.count - before, ports) &&
-           is_value(object, &binding->value);
+    return is_index(object, binding->name.sub + before, binding->name.count - before, kind.ports) &&
+           is_value(object, &binding->value, kind.edition);
 }
 
 static bool is_exception(uint8_t tag)
@@ -102,7 +103,7 @@ static const char *next_flaw(const struct binding *asked, const struct binding *
     return order > 0 && !is_exception(got->value.tag) ? NULL : "get-next gives no value, or a name that is not above";
 }
 
-static const char *gets_flaw(struct answer request, struct answer answer, uint32_t ports)
+static const char *gets_flaw(struct answer request, struct answer answer, struct bridge_kind kind)
 {
     struct binding asked, got;
 
@@ -114,7 +115,7 @@ static const char *gets_flaw(struct answer request, struct answer answer, uint32
         if (flaw != NULL) {
             return flaw;
         }
-        if (!is_exception(got.value.tag) && !is_instance(&got, ports)) {
+        if (!is_exception(got.value.tag) && !is_instance(&got, kind)) {
             return "a value that the object cannot have, or no instance of it";
         }
     }
@@ -147,14 +148,14 @@ static bool timers_agree(const uint32_t timers[TIMERS])
 
 /* A set without a fault writes objects that can be written, with values that they can have, and timers that belong
  * together. */
-static const char *accepted_flaw(struct answer request, uint32_t ports)
+static const char *accepted_flaw(struct answer request, struct bridge_kind kind)
 {
     uint32_t timers[TIMERS] = {0};
     struct binding binding;
     size_t place;
 
     while (answer_binding(&request, &binding)) {
-        if (!is_instance(&binding, ports) || name_object(&binding.name)->access != WRITABLE) {
+        if (!is_instance(&binding, kind) || name_object(&binding.name)->access != WRITABLE) {
             return "a set is accepted that writes what cannot be written";
         }
         if (is_timer(&binding, &place)) {
@@ -164,7 +165,7 @@ static const char *accepted_flaw(struct answer request, uint32_t ports)
     return timers_agree(timers) ? NULL : "a set is accepted whose timers do not belong together";
 }
 
-const char *reply_flaw(const struct octets *request, const uint8_t *room, size_t count, uint32_t ports)
+const char *reply_flaw(const struct octets *request, const uint8_t *room, size_t count, struct bridge_kind kind)
 {
     struct answer asked, answer;
     const char *flaw;
@@ -180,9 +181,9 @@ const char *reply_flaw(const struct octets *request, const uint8_t *room, size_t
         return flaw;
     }
     if (asked.kind != RB_SET) {
-        return gets_flaw(asked, answer, ports);
+        return gets_flaw(asked, answer, kind);
     }
-    return answer.status == RB_NO_ERROR ? accepted_flaw(asked, ports) : NULL;
+    return answer.status == RB_NO_ERROR ? accepted_flaw(asked, kind) : NULL;
 }
 
 static void note(size_t outcome)

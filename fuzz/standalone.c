@@ -183,9 +183,9 @@ static void print_start(uint8_t start)
     static uint8_t fresh[RB_BLOCK_SIZE], block[RB_BLOCK_SIZE];
     char command[32];
 
-    start_bridge(fresh, start & START_PORTS);
+    start_bridge(fresh, start & (START_PORTS | START_EDITION));
     start_bridge(block, start);
-    printf("bridge %d 00:11:22:33:44:55\n", 1 + (start & START_PORTS));
+    printf("bridge %d 00:11:22:33:44:55%s\n", 1 + (start & START_PORTS), start & START_EDITION ? " edition 2" : "");
     for (size_t at = 0; at < RB_BLOCK_SIZE; at += 32) {
         if (memcmp(block + at, fresh + at, 32) != 0) {
             snprintf(command, sizeof command, "poke %zu", at);

@@ -11,6 +11,7 @@ enum {
     AT_VLAN_COUNT = 8,
     AT_STATIC_COUNT = 12,
     AT_VLAN_TOTAL = 22,
+    AT_EDITION = 24,
     AT_VLAN_ROWS = 6196,
     VLAN_ROW = 60,
     AT_STATIC_ROWS = 21556,
@@ -51,9 +52,9 @@ static void put_static_row(uint8_t *row, uint32_t i, uint64_t all_ports)
     put(row + 8, all_ports, 8);
 }
 
-uint32_t ports_of(const uint8_t *block)
+struct bridge_kind kind_of(const uint8_t *block)
 {
-    return block[AT_PORTS + 3];
+    return (struct bridge_kind){.ports = block[AT_PORTS + 3], .edition = block[AT_EDITION]};
 }
 
 void start_bridge(uint8_t *block, uint8_t start)
@@ -61,8 +62,9 @@ void start_bridge(uint8_t *block, uint8_t start)
     static const uint8_t address[RB_ADDRESS_SIZE] = {0x00, 0x11, 0x22, 0x33, 0x44, 0x55};
     uint32_t ports = 1u + (start & START_PORTS);
     uint64_t all_ports = UINT64_MAX << (64 - ports);
+    uint32_t edition = (start & START_EDITION) == 0 ? RB_EDITION_OLD : RB_EDITION_NEW;
 
-    rb_setup(block, RB_BLOCK_SIZE, ports, address, sizeof address);
+    rb_setup(block, RB_BLOCK_SIZE, ports, edition, address, sizeof address);
     if ((start & START_FULL) == 0) {
         return;
     }

@@ -49,8 +49,12 @@ static void print_object(const struct object *object)
         puts("table");
         return;
     }
-    printf("%-9s%-10s%-20s%s\n", type_name(object), object->access == WRITABLE ? "writable" : "read-only", range,
+    printf("%-9s%-10s%-20s%s", type_name(object), object->access == WRITABLE ? "writable" : "read-only", range,
            indexes[object->index]);
+    if (object_step(object) != 1) {
+        printf("    # edition 2: in steps of %" PRIu32, object_step(object));
+    }
+    puts("");
 }
 
 void catalogue_print(void)

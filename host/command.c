@@ -28,6 +28,25 @@ static bool read_address(struct text *text, struct octets *octets, struct compla
     }
 }
 
+/* The words `edition E` at the end of the line, or nothing. Any number is taken, to try what set-up refuses. */
+static bool read_edition(struct text *text, uint32_t *edition, struct complaint *why)
+{
+    struct text word;
+    uint64_t number = RB_EDITION_OLD;
+
+    if (!text_is_done(text)) {
+        word = text_word(text, "");
+        if (!text_is(word, "edition")) {
+            return complain(why, "after the address stands nothing, or edition E: '%.*s'", text_quoted(word), word.at);
+        }
+        if (!text_take_number(text, "the edition", UINT32_MAX, &number, why)) {
+            return false;
+        }
+    }
+    *edition = (uint32_t)number;
+    return true;
+}
+
 static bool read_bridge(struct text *text, struct command *command, struct complaint *why)
 {
     uint64_t ports;
@@ -36,7 +55,7 @@ static bool read_bridge(struct text *text, struct command *command, struct compl
         return false;
     }
     command->number = (uint32_t)ports;
-    return read_address(text, &command->octets, why);
+    return read_address(text, &command->octets, why) && read_edition(text, &command->edition, why);
 }
 
 static bool add_binding(struct command *command, const struct name *name, const struct value *value,

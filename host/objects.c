@@ -116,6 +116,21 @@ size_t object_index_subs(const struct object *object)
     }
 }
 
+uint32_t object_step(const struct object *object)
+{
+    static const struct {
+        const char *name;
+        uint32_t step;
+    } priorities[] = {{"dot1dStpPriority", 4096}, {"dot1dStpPortPriority", 16}};
+
+    for (size_t i = 0; i < sizeof priorities / sizeof priorities[0]; i++) {
+        if (strcmp(object->name, priorities[i].name) == 0) {
+            return priorities[i].step;
+        }
+    }
+    return 1;
+}
+
 size_t object_instance(const struct object *object, const uint32_t *index, size_t count, uint32_t *sub)
 {
     size_t at = BRIDGE_SUBS;

@@ -44,6 +44,9 @@ const struct object *object_by_number(const uint32_t *sub, size_t count);
 /* How many sub-ids the index of an instance has. */
 size_t object_index_subs(const struct object *object);
 
+/* In edition 2 the object's numbers are multiples of this: 1 but for the two priorities. */
+uint32_t object_step(const struct object *object);
+
 /* The sub-ids of an instance: the bridge's, the object's own, the index. Returns how many they are. */
 size_t object_instance(const struct object *object, const uint32_t *index, size_t count, uint32_t *sub);
 

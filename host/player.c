@@ -24,9 +24,10 @@ static void note_flaw(struct turn *turn, const char *flaw)
 static void play_block_call(struct turn *turn)
 {
     struct bridge *bridge = &turn->player->bridge;
-    struct reply reply = turn->command.kind == COMMAND_RESET
+    const struct command *command = &turn->command;
+    struct reply reply = command->kind == COMMAND_RESET
                              ? bridge_reset(bridge)
-                             : bridge_setup(bridge, turn->command.number, &turn->command.octets);
+                             : bridge_setup(bridge, command->number, command->edition, &command->octets);
     struct outcome outcome = refused(reply.number);
 
     if (reply.number == RB_ANSWERED) {

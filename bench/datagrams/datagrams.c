@@ -143,7 +143,7 @@ int main(void)
 {
     static const uint8_t address[RB_ADDRESS_SIZE];
 
-    need(rb_setup(block, sizeof block, 4, address, sizeof address).number == 0, "no bridge");
+    need(rb_setup(block, sizeof block, 4, RB_EDITION_OLD, address, sizeof address).number == 0, "no bridge");
     for (unsigned bindings = 1; bindings <= RB_BINDINGS_MAX; bindings += RB_BINDINGS_MAX - 1) {
         make_request(bindings);
         for (size_t i = 0; i < sizeof steps / sizeof *steps; i++) {

@@ -30,9 +30,9 @@ static bool load(struct state *state, FILE *stream, struct complaint *why)
     return true;
 }
 
-bool state_start(struct state *state, const char *file, uint32_t ports, const struct octets *address,
-                 struct complaint *why)
+bool state_start(struct state *state, const char *file, const struct command *bridge, struct complaint *why)
 {
+    const struct octets *address = &bridge->octets;
     FILE *stream = file == NULL ? NULL : fopen(file, "rb");
 
     state->file = file;
@@ -42,8 +42,10 @@ bool state_start(struct state *state, const char *file, uint32_t ports, const st
     if (file != NULL && errno != ENOENT) {
         return complain(why, "%s cannot be opened: %s", file, strerror(errno));
     }
-    if (rb_setup(state->block, RB_BLOCK_SIZE, ports, address->at, address->count).number != RB_ANSWERED) {
-        return complain(why, "a bridge has 1 to %u ports and an address of %u octets", RB_PORTS_MAX, RB_ADDRESS_SIZE);
+    if (rb_setup(state->block, RB_BLOCK_SIZE, bridge->number, bridge->edition, address->at, address->count).number !=
+        RB_ANSWERED) {
+        return complain(why, "a bridge has 1 to %u ports, an address of %u octets, and edition %d or %d", RB_PORTS_MAX,
+                        RB_ADDRESS_SIZE, RB_EDITION_OLD, RB_EDITION_NEW);
     }
     return state_keep(state, why);
 }

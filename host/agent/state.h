@@ -3,17 +3,16 @@
 #ifndef AGENT_STATE_H
 #define AGENT_STATE_H
 
+#include "command.h"
 #include "refbridge.h"
-#include "text.h"
 
 struct state {
     uint8_t block[RB_BLOCK_SIZE];
     const char *file; /* NULL: the block is kept nowhere */
 };
 
-/* Loads the file's block, or sets up a fresh one where there is no file. */
-bool state_start(struct state *state, const char *file, uint32_t ports, const struct octets *address,
-                 struct complaint *why);
+/* Loads the file's block, or sets up the bridge of the command where there is no file. */
+bool state_start(struct state *state, const char *file, const struct command *bridge, struct complaint *why);
 
 /* Writes the block beside the file, and then in its place. */
 bool state_keep(const struct state *state, struct complaint *why);

@@ -91,13 +91,13 @@ static void make_static_rows(uint8_t own[RB_BLOCK_SIZE])
     memcpy(own, block.octets, RB_BLOCK_SIZE);
 }
 
-static void play_bridge(uint32_t ports)
+static void play_bridge(uint32_t ports, uint32_t edition)
 {
     static uint8_t own[RB_BLOCK_SIZE], hurt[SPACE];
     static const uint8_t address[RB_ADDRESS_SIZE] = {2, 0, 0, 0, 0, 1};
     static const enum rb_kind kinds[] = {RB_GET, RB_GET_NEXT, RB_SET, RB_SET};
     struct octets r;
-    REQUIRE(rb_setup(own, sizeof own, ports, address, sizeof address).number == 0, "set-up");
+    REQUIRE(rb_setup(own, sizeof own, ports, edition, address, sizeof address).number == 0, "set-up");
     make_static_rows(own);
     for (unsigned i = 0; i < 400; i++) {
         random_request(&r, kinds[chance(4)]);
@@ -123,11 +123,12 @@ static void play_setup(void)
     static uint8_t octets[SPACE];
     for (unsigned i = 0; i < 300; i++) {
         size_t block_len = chance(2) == 0 ? RB_BLOCK_SIZE : chance(SPACE), address_len = chance(2) == 0 ? RB_ADDRESS_SIZE : chance(12);
-        uint32_t ports = chance(70);
+        uint32_t ports = chance(70), edition = chance(4);
         lend(&block, octets, block_len, (int)chance(2));
         lend(&request, octets, address_len, (int)chance(2));
-        rb_result got = rb_setup(block.octets, block.length, ports, request.octets, request.length);
-        int takes = block_len == RB_BLOCK_SIZE && address_len == RB_ADDRESS_SIZE && ports >= 1 && ports <= 64;
+        rb_result got = rb_setup(block.octets, block.length, ports, edition, request.octets, request.length);
+        int takes = block_len == RB_BLOCK_SIZE && address_len == RB_ADDRESS_SIZE && ports >= 1 && ports <= 64 &&
+                    (edition == RB_EDITION_OLD || edition == RB_EDITION_NEW);
         REQUIRE(got.number == (takes ? RB_ANSWERED : RB_SETUP_REFUSED) && got.count == 0 && got.offset == 0, "set-up gave %u", got.number);
         REQUIRE(takes || kept(&block, 0), "a refused set-up wrote an octet");
         numbers[got.number]++;
@@ -143,7 +144,7 @@ int main(int argc, char **argv)
     guarded_make(&room, SPACE);
     static const uint32_t ports[] = {1, 4, 8, 9, 33, 63, 64};
     for (size_t i = 0; i < sizeof ports / sizeof ports[0]; i++)
-        play_bridge(ports[i]);
+        play_bridge(ports[i], i % 2 == 0 ? RB_EDITION_OLD : RB_EDITION_NEW);
     play_setup();
     REQUIRE(resets_with_rows > 0, "no reset removed a row, so nothing was tried of it");
     printf("guarded: %u calls, %u resets that removed rows;", calls, resets_with_rows);

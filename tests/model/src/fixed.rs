@@ -7,22 +7,27 @@ use crate::player::{same_octets, same_return, Difference};
 use crate::random::Random;
 use crate::tally::Tally;
 
-/// Every number of ports, with block and address of the right length and of wrong ones; blocks are poisoned.
+/// Every number of ports, in both editions, and other editions, with block and address of the right length and of wrong ones; blocks are poisoned.
 pub fn compare_set_up(library: Library, random: &mut Random, tally: &mut Tally) -> Result<(), Difference> {
     let ports = (0..=70).chain([127, 128, 255, 256, 257, 260, 320, 65536, 65540, 0x8000_0004, u32::MAX]);
     for ports in ports {
         for (block_len, address_len) in
             [(BLOCK, 6), (BLOCK - 1, 6), (BLOCK + 1, 6), (0, 6), (BLOCK, 5), (BLOCK, 7), (BLOCK, 0)]
         {
-            set_up(library, random, tally, (block_len, ports, address_len))?;
+            set_up(library, random, tally, (block_len, ports, 1, address_len))?;
+            set_up(library, random, tally, (block_len, ports, 2, address_len))?;
         }
+    }
+    for edition in (0..=20).chain([255, 256, 257, 258, 65537, 0x0100_0001, 0x8000_0001, u32::MAX]) {
+        set_up(library, random, tally, (BLOCK, 4, edition, 6))?;
     }
     for _ in 0..100 {
         let (block_len, address_len) = (random.below(2 * BLOCK), random.below(300));
-        let ports = random.within(0, 65);
-        set_up(library, random, tally, (block_len, ports, 6))?;
-        set_up(library, random, tally, (BLOCK, ports, address_len))?;
-        set_up(library, random, tally, (block_len, ports, address_len))?;
+        let (ports, edition) = (random.within(0, 65), random.within(0, 3));
+        set_up(library, random, tally, (BLOCK, ports, edition, 6))?;
+        set_up(library, random, tally, (block_len, ports, edition, 6))?;
+        set_up(library, random, tally, (BLOCK, ports, edition, address_len))?;
+        set_up(library, random, tally, (block_len, ports, edition, address_len))?;
     }
     Ok(())
 }
@@ -31,15 +36,16 @@ fn set_up(
     library: Library,
     random: &mut Random,
     tally: &mut Tally,
-    (block_len, ports, address_len): (usize, u32, usize),
+    (block_len, ports, edition, address_len): (usize, u32, u32, usize),
 ) -> Result<(), Difference> {
     let address = random.octets(address_len).into_boxed_slice();
     let mut expected = random.poison(block_len);
     let mut block = expected.clone().into_boxed_slice();
-    let said = calls::set_up(&mut expected, ports, &address);
-    let returned = (library.set_up)(&mut block, ports, &address);
-    note(tally, said, "set-up accepted", 0);
-    let what = format!("set-up of {block_len} octets, {ports} ports, address of {address_len} octets");
+    let said = calls::set_up(&mut expected, ports, edition, &address);
+    let returned = (library.set_up)(&mut block, ports, edition, &address);
+    note(tally, said, "set-up accepted, by edition", edition);
+    let what =
+        format!("set-up of {block_len} octets, {ports} ports, edition {edition}, address of {address_len} octets");
     same_return(&what, returned, said)?;
     same_octets(&what, &block, &expected)
 }

@@ -59,8 +59,8 @@ impl<'a> Player<'a> {
     pub fn start(library: Library, start: &Bridge, tally: &'a mut Tally) -> Result<Player<'a>, Difference> {
         let mut poison = Random::new(u64::from(start.ports));
         let mut block = poison.poison(BLOCK).into_boxed_slice();
-        let returned = (library.set_up)(&mut block, start.ports, &start.address);
-        let fresh = Bridge::fresh(start.ports, &start.address).expect("a bridge to start from");
+        let returned = (library.set_up)(&mut block, start.ports, start.edition, &start.address);
+        let fresh = Bridge::fresh(start.ports, start.edition, &start.address).expect("a bridge to start from");
         same_return("set-up", returned, (0, 0, 0))?;
         same_octets("block after set-up", &block, &fresh.image())?;
         let expected = start.image();

@@ -75,7 +75,7 @@ impl Shrinker {
     /// A fresh bridge, or one with fewer rows, to start from.
     fn simpler_start(&mut self) {
         let start = self.best.start.clone();
-        let fresh = Bridge::fresh(start.ports, &start.address).expect("a bridge to start from");
+        let fresh = Bridge::fresh(start.ports, start.edition, &start.address).expect("a bridge to start from");
         self.with_start(fresh.clone());
         self.with_start(Bridge { settings: fresh.settings.clone(), ..self.best.start.clone() });
         self.with_start(Bridge { vlan_deletes: 0, ..self.best.start.clone() });

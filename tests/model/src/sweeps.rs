@@ -6,7 +6,7 @@ use crate::library::Library;
 use crate::model::bridge::Bridge;
 use crate::model::image::{BLOCK, CELLS, STATIC_ROW, STATIC_ROWS, VLAN_ROW, VLAN_ROWS};
 use crate::model::message::{write_request, Binding, Content, Kind, Request};
-use crate::model::names::{type_of, Object, Syntax};
+use crate::model::names::{type_of, Object, Syntax, EDITIONS};
 use crate::player::{Failure, Player};
 use crate::random::Random;
 use crate::step::{History, Step};
@@ -15,8 +15,8 @@ use crate::tally::Tally;
 type Swept = Result<(), Box<(History, Failure)>>;
 
 /// A bridge with a few rows in both growing tables.
-fn small_bridge(random: &mut Random, ports: u32) -> Bridge {
-    let fresh = Bridge::fresh(ports, &start::address(random)).expect("1 to 64 ports");
+fn small_bridge(random: &mut Random, ports: u32, edition: u32) -> Bridge {
+    let fresh = Bridge::fresh(ports, edition, &start::address(random)).expect("1 to 64 ports");
     let mut bridge = start::filled(random, fresh);
     while bridge.vlans.len() > 4 {
         bridge.vlans.pop_first();
@@ -57,9 +57,14 @@ fn play_all(library: Library, start: &Bridge, runs: impl Iterator<Item = Vec<Ste
     Ok(())
 }
 
-/// Every octet of a block, changed once; those that hold something, changed in more ways.
+/// Every octet of a block of each edition.
 pub fn every_block_octet(library: Library, random: &mut Random, tally: &mut Tally) -> Swept {
-    let start = small_bridge(random, 9);
+    EDITIONS.into_iter().try_for_each(|edition| every_octet_of(library, edition, random, tally))
+}
+
+/// Every octet of a block, changed once; those that hold something, changed in more ways.
+fn every_octet_of(library: Library, edition: u32, random: &mut Random, tally: &mut Tally) -> Swept {
+    let start = small_bridge(random, 9, edition);
     let block = start.image();
     let asked = message(Kind::Get, vec![bind(Object::NumPorts, &[0], Content::Null)]);
     let holds = |at: usize| {
@@ -85,14 +90,14 @@ pub fn every_block_octet(library: Library, random: &mut Random, tally: &mut Tall
 /// belong together with room on both sides but for the least ForwardDelay, so that a rule hides no range.
 pub fn every_range(library: Library, random: &mut Random, tally: &mut Tally) -> Swept {
     let asked = message(Kind::Get, vec![bind(Object::NumPorts, &[0], Content::Null)]);
-    for at_high in [false, true] {
-        let mut start = Bridge::fresh(9, &start::address(random)).expect("1 to 64 ports");
+    for (edition, at_high) in [(1, false), (1, true), (2, false), (2, true)] {
+        let mut start = Bridge::fresh(9, edition, &start::address(random)).expect("1 to 64 ports");
         for (object, numbers) in &mut start.settings {
-            let (low, high) = range(*object);
+            let (low, high) = range(*object, edition);
             numbers.fill(if at_high { high } else { low });
         }
         let pokes = CELLS.iter().flat_map(|(object, first)| {
-            let (low, high) = range(*object);
+            let (low, high) = range(*object, edition);
             let last = first + 4 * (start.settings[object].len() - 1);
             let numbers = if at_high { [high, high + 1] } else { [low, low.wrapping_sub(1)] };
             [(*first, numbers[0]), (*first, numbers[1]), (last, numbers[0]), (last, numbers[1])]
@@ -106,9 +111,12 @@ pub fn every_range(library: Library, random: &mut Random, tally: &mut Tally) -> 
     Ok(())
 }
 
-fn range(object: Object) -> (u32, u32) {
-    match type_of(object).syntax {
-        Syntax::Integer(low, high) | Syntax::Unsigned(low, high) => (low, high),
+/// The least and the most that an object takes.
+fn range(object: Object, edition: u32) -> (u32, u32) {
+    match (edition, object, type_of(object).syntax) {
+        (2, Object::StpPriority, _) => (0, 61440),
+        (2, Object::StpPortPriority, _) => (0, 240),
+        (_, _, Syntax::Integer(low, high) | Syntax::Unsigned(low, high)) => (low, high),
         _ => unreachable!("{object:?} has no cells"),
     }
 }
@@ -134,7 +142,7 @@ fn requests() -> Vec<Vec<u8>> {
 
 /// Some requests cut at every octet, with every octet changed in some ways, and with an octet put in at every place.
 pub fn every_request_octet(library: Library, random: &mut Random, tally: &mut Tally) -> Swept {
-    let start = small_bridge(random, 4);
+    let start = small_bridge(random, 4, 1);
     let mut runs = Vec::new();
     for request in requests() {
         for at in 0..request.len() {
@@ -160,8 +168,9 @@ pub fn every_request_octet(library: Library, random: &mut Random, tally: &mut Ta
 
 /// Get and get-next of every name that is an instance, begins one, or differs from one in a sub-id by one.
 pub fn every_name(library: Library, random: &mut Random, tally: &mut Tally) -> Swept {
-    for ports in [1, 2] {
-        let start = small_bridge(random, ports);
+    // One port in edition 1, two in edition 2.
+    for ports in EDITIONS {
+        let start = small_bridge(random, ports, ports);
         let mut asked = Vec::new();
         let mut next = start.next_binding(&[0, 0]);
         while next.content != Content::EndOfMibView {

@@ -4,9 +4,9 @@ use crate::generate::scripts::SCRIPTS;
 use crate::generate::start::PORTS;
 use crate::model::bridge::{Bridge, DELETE_ON_RESET, MOST_ROWS, TIMERS};
 use crate::model::image::BLOCK;
-use crate::model::message::{read, write_answer, Binding, Kind, Refusal, Request, LONGEST};
-use crate::model::names::{split, type_of, Object, Shape, TABLE};
-use crate::model::set::INCONSISTENT_VALUE;
+use crate::model::message::{read, write_answer, Binding, Content, Kind, Refusal, Request, LONGEST};
+use crate::model::names::{split, takes, type_of, Object, Shape, TABLE};
+use crate::model::set::{INCONSISTENT_VALUE, WRONG_VALUE};
 use std::collections::BTreeMap;
 
 #[derive(Default)]
@@ -56,7 +56,11 @@ fn required() -> Vec<(&'static str, Vec<u32>)> {
         ("changed block, not legal or legal", vec![0, 1]),
         ("start, fresh or filled", vec![0, 1]),
         ("script", (0..SCRIPTS.len() as u32).collect()),
-        ("set-up accepted", vec![0]),
+        ("set-up accepted, by edition", vec![1, 2]),
+        ("edition", vec![1, 2]),
+        ("priority written in edition 1 beside the steps, bridge's or port's", vec![0, 1]),
+        ("priority written in edition 2, bridge's or port's", vec![0, 1]),
+        ("priority of the old range refused in edition 2, bridge's or port's", vec![0, 1]),
         ("timer converted, to 256ths or back", vec![0, 1]),
     ]
 }
@@ -115,6 +119,7 @@ impl Tally {
 
     fn note_sizes(&mut self, request: &[u8], before: &Bridge, answer: &[u8]) {
         self.note("ports", before.ports);
+        self.note("edition", before.edition);
         for (title, rows) in [("VLAN rows", before.vlans.len()), ("static rows", before.statics.len())] {
             if matches!(rows, 0 | 1 | 254..) {
                 self.note(title, rows as u32);
@@ -143,6 +148,11 @@ impl Tally {
                 let faulted = &request.bindings[usize::from(index) - 1..][..1];
                 if fault == INCONSISTENT_VALUE && timers_bound(faulted) > 0 {
                     self.note("12 on a timer, by timers bound", timers_bound(&request.bindings));
+                }
+                if let (WRONG_VALUE, 2, Some((place, number))) = (fault, before.edition, priority(&faulted[0])) {
+                    if takes(PRIORITIES[place], 1, number) {
+                        self.note("priority of the old range refused in edition 2, bridge's or port's", place as u32);
+                    }
                 }
             }
             (kind, 1) => {
@@ -173,6 +183,13 @@ impl Tally {
         for (at, binding) in bindings.iter().enumerate() {
             let Some((entry, index)) = split(&binding.name) else { continue };
             self.note("object written", entry.object as u32);
+            if let Some((place, number)) = priority(binding) {
+                match before.edition {
+                    2 => self.note("priority written in edition 2, bridge's or port's", place as u32),
+                    _ if takes(PRIORITIES[place], 2, number) => {}
+                    _ => self.note("priority written in edition 1 beside the steps, bridge's or port's", place as u32),
+                }
+            }
             let made = before.get(entry.object, index).is_none() && after.get(entry.object, index).is_some();
             if made && matches!(entry.object, Object::VlanRowStatus | Object::StaticStatus) {
                 self.note_made(entry.shape, index, &bindings[..at], before);
@@ -251,6 +268,18 @@ fn label(title: &str, number: u32) -> String {
         "content, by tag" => format!("{number:X}:"),
         "script" => SCRIPTS[number as usize].0.to_string(),
         _ => format!("{number}:"),
+    }
+}
+
+const PRIORITIES: [Object; 2] = [Object::StpPriority, Object::StpPortPriority];
+
+/// Which priority a binding writes, and its number; none where it writes none.
+fn priority(binding: &Binding) -> Option<(usize, u32)> {
+    let (entry, _) = split(&binding.name)?;
+    let place = PRIORITIES.iter().position(|object| *object == entry.object)?;
+    match binding.content {
+        Content::Integer(number) => Some((place, u32::try_from(number).ok()?)),
+        _ => None,
     }
 }
 

@@ -53,13 +53,17 @@ impl Replay {
         (self.size, self.room) = (32768, 1472);
     }
 
+    fn set_up(&mut self, ports: &str, edition: &str, address: &str) {
+        let address = hex(&address.replace(':', ""));
+        self.block = Bridge::fresh(ports.parse().unwrap(), edition.parse().unwrap(), &address).unwrap().image();
+    }
+
     fn line(&mut self, line: &str) {
         let words: Vec<&str> = line.split(' ').collect();
         match words[..] {
             ["#", ..] => {}
-            ["bridge", ports, address] => {
-                self.block = Bridge::fresh(ports.parse().unwrap(), &hex(address)).unwrap().image();
-            }
+            ["bridge", ports, address] => self.set_up(ports, "1", address),
+            ["bridge", ports, address, "edition", edition] => self.set_up(ports, edition, address),
             ["poke", offset, octets] => {
                 let (offset, octets): (usize, Vec<u8>) = (offset.parse().unwrap(), hex(octets));
                 self.block[offset..offset + octets.len()].copy_from_slice(&octets);
@@ -78,7 +82,8 @@ impl Replay {
 fn case_files_are_replayed() {
     for seed in 0..40 {
         let mut random = Random::new(seed);
-        let fresh = Bridge::fresh(start::ports(&mut random), &start::address(&mut random)).unwrap();
+        let (ports, edition) = (start::ports(&mut random), start::edition(&mut random));
+        let fresh = Bridge::fresh(ports, edition, &start::address(&mut random)).unwrap();
         let start = if seed % 2 == 0 { fresh } else { start::filled(&mut random, fresh) };
         let mut history = History { start, steps: Vec::new() };
         let mut tally = Tally::default();

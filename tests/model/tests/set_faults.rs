@@ -226,3 +226,20 @@ fn timers_are_judged_together() {
     assert_eq!(judged(&[(forward_delay, 1099), ("2.12.1", 600)]), (12, 1));
     assert_eq!(judged(&[(forward_delay, 1099), (forward_delay, 1500)]), (12, 1));
 }
+
+#[test]
+fn priorities_of_both_editions() {
+    let judged = |edition: u32, text: &str, number: i32| {
+        let mut bridge = Bridge::fresh(4, edition, &ADDRESS).unwrap();
+        let status = set(&mut bridge, &[(text, integer(number))]);
+        assert_eq!(bridge.edition, edition);
+        assert_eq!(get(&bridge, text) == integer(number), status == (0, 0), "{text} {number}");
+        status.0
+    };
+    let of_bridge = [0, 4096, 61440, 1, 4095, 4097, 61441, 65535, 65536, -4096];
+    assert_eq!(of_bridge.map(|number| judged(1, "2.2.0", number)), [0, 0, 0, 0, 0, 0, 0, 0, 10, 10]);
+    assert_eq!(of_bridge.map(|number| judged(2, "2.2.0", number)), [0, 0, 0, 10, 10, 10, 10, 10, 10, 10]);
+    let of_port = [0, 16, 240, 1, 15, 17, 241, 255, 256, -16];
+    assert_eq!(of_port.map(|number| judged(1, "2.15.1.2.4", number)), [0, 0, 0, 0, 0, 0, 0, 0, 10, 10]);
+    assert_eq!(of_port.map(|number| judged(2, "2.15.1.2.4", number)), [0, 0, 0, 10, 10, 10, 10, 10, 10, 10]);
+}

@@ -107,7 +107,7 @@ fn an_image_is_read_back() {
 #[test]
 fn fresh_octets() {
     let block = fresh(4).image();
-    assert_eq!(block[..32], hex("00000004 00000000 00000001 00000000 001122334455 0001 0000000000000000"));
+    assert_eq!(block[..32], hex("00000004 00000000 00000001 00000000 001122334455 0001 01 00000000000000"));
     assert_eq!(block[32..52], hex("00008000 000007D0 000000C8 000005DC 00000080"));
     assert_eq!(block[6196..6200], hex("0001 01 00"));
     assert_eq!(block[6196 + 36..6196 + 60], hex("F000000000000000 0000000000000000 F000000000000000"));
@@ -158,7 +158,7 @@ fn the_total_of_active_rows() {
 fn blocks_that_are_not_legal() {
     let legal = with_rows(4).image();
     let (vlan, fixed) = (6196, 21556);
-    let changes: [(usize, &[u8]); 26] = [
+    let changes: [(usize, &[u8]); 28] = [
         (3, &[0]),
         (3, &[65]),
         (11, &[4]),
@@ -167,7 +167,9 @@ fn blocks_that_are_not_legal() {
         (15, &[3]),
         (22, &[1]),
         (23, &[0]),
-        (24, &[1]),
+        (24, &[0]),
+        (24, &[3]),
+        (25, &[1]),
         (36, &[0, 0, 2, 87]),
         (40, &[0, 0, 3, 133]),
         (44, &[0, 0, 4, 75]),
@@ -193,6 +195,27 @@ fn blocks_that_are_not_legal() {
         assert_eq!(Bridge::from_block(&block), None, "{offset}: {octets:?}");
     }
     assert_eq!(Bridge::from_block(&legal[..32767]), None);
+}
+
+/// Fresh contents are legal in both editions, and in edition 2 priorities stand in steps.
+#[test]
+fn editions_of_a_block() {
+    let (old, new) = (fresh(4).image(), Bridge::fresh(4, 2, &ADDRESS).unwrap().image());
+    let differing: Vec<usize> = (0..old.len()).filter(|at| old[*at] != new[*at]).collect();
+    assert_eq!((differing, old[24], new[24]), (vec![24], 1, 2));
+    let legal = |edition: u8, start: usize, priority: u32| {
+        let mut block = old.clone();
+        block[24] = edition;
+        block[start..start + 4].copy_from_slice(&priority.to_be_bytes());
+        Bridge::from_block(&block).is_some()
+    };
+    let of_bridge = [0, 1, 4095, 4096, 32768, 61439, 61440, 61441, 65535, 65536];
+    let of_port = [0, 1, 15, 16, 128, 239, 240, 241, 255, 256];
+    for (start, priorities) in [(32, of_bridge), (48, of_port)] {
+        assert_eq!(priorities.map(|priority| legal(1, start, priority)), [[true; 9].as_slice(), &[false]].concat()[..]);
+        let stepped = [true, false, false, true, true, false, true, false, false, false];
+        assert_eq!(priorities.map(|priority| legal(2, start, priority)), stepped);
+    }
 }
 
 #[test]

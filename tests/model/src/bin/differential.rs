@@ -172,7 +172,8 @@ fn run(library: Library, options: &Options, tally: &mut Tally) -> Outcome {
 /// Generates a history while it is played; on a difference gives the steps so far.
 fn one_history(library: Library, seed: u64, tally: &mut Tally) -> Result<(), Box<(History, Failure)>> {
     let mut random = Random::new(seed.wrapping_mul(0xD134_2543_DE82_EF95));
-    let fresh = Bridge::fresh(start::ports(&mut random), &start::address(&mut random)).expect("1 to 64 ports");
+    let (ports, edition) = (start::ports(&mut random), start::edition(&mut random));
+    let fresh = Bridge::fresh(ports, edition, &start::address(&mut random)).expect("1 to 64 ports");
     let filled = random.chance(50);
     tally.note("start, fresh or filled", u32::from(filled));
     let start = if filled { start::filled(&mut random, fresh) } else { fresh };

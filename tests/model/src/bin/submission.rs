@@ -5,7 +5,7 @@
 //! A file has four bridges, each with a set-up, the requests of the differential test's scripts, timers and set-ups that
 //! are refused, and at the end a walk over everything. A request that can be read is written as the command that makes it.
 
-use refbridge_model::case_file::{hex, write_poke, MOST_OCTETS};
+use refbridge_model::case_file::{bridge_line, hex, write_poke, MOST_OCTETS};
 use refbridge_model::generate::{scripts, start};
 use refbridge_model::library::Returned;
 use refbridge_model::model::calls;
@@ -57,7 +57,7 @@ impl Writer {
     /// A bridge's cases; one that fills begins with sets until a table is full.
     fn write_bridge(&mut self, random: &mut Random, fills: bool) {
         let last = self.cases + CASES - 1;
-        self.set_up(start::ports(random), &start::address(random));
+        self.set_up(start::ports(random), start::edition(random), &start::address(random));
         if fills {
             let steps = scripts::fill(random, &self.bridge());
             self.play(&steps);
@@ -71,7 +71,10 @@ impl Writer {
     /// Some cases, at most so many.
     fn write_some(&mut self, random: &mut Random, most: usize) {
         match random.below(40) {
-            0 => self.set_up(random.pick(&[0, 65, 4_000_000_000]), &start::address(random)),
+            0 => {
+                let (ports, edition) = random.pick(&[(0, 1), (65, 2), (4_000_000_000, 1), (4, 0), (4, 3)]);
+                self.set_up(ports, edition, &start::address(random));
+            }
             1 => self.timer("to256ths", random.within(0, 25_650), calls::to_256ths),
             2 => self.timer("tohundredths", random.within(0, 65_600), calls::to_hundredths),
             _ => {
@@ -100,10 +103,9 @@ impl Writer {
         self.lines.push(format!("-> {words}"));
     }
 
-    fn set_up(&mut self, ports: u32, address: &[u8]) {
-        let octets: Vec<String> = address.iter().map(|octet| format!("{octet:02X}")).collect();
-        self.case(format!("bridge {ports} {}", octets.join(":")));
-        match calls::set_up(&mut self.block, ports, address).0 {
+    fn set_up(&mut self, ports: u32, edition: u32, address: &[u8]) {
+        self.case(bridge_line(ports, edition, address));
+        match calls::set_up(&mut self.block, ports, edition, address).0 {
             0 => self.expect("accepted".to_string()),
             refusal => self.expect(format!("refused {refusal}")),
         }

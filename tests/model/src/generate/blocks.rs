@@ -53,7 +53,7 @@ fn changed(random: &mut Random, block: &[u8], range: std::ops::Range<usize>) -> 
 }
 
 /// Where the parts of the layout end.
-const PART_ENDS: [usize; 9] = [22, 24, 32, 5940, 6196, 21556, 25652, 26164, BLOCK];
+const PART_ENDS: [usize; 10] = [22, 24, 25, 32, 5940, 6196, 21556, 25652, 26164, BLOCK];
 
 /// The parts of the layout, the ends of each more often.
 fn anywhere_of_a_part(random: &mut Random, block: &[u8]) -> Poke {
@@ -77,11 +77,12 @@ fn head(random: &mut Random, bridge: &Bridge) -> Poke {
             [now.wrapping_sub(1), now + 1, 0, 64, 65, 256, 257, now + 0x100, now | 0x8000_0000, now + 0x0100_0000];
         number(random.pick(&values))
     };
-    match random.below(5) {
+    match random.below(6) {
         0 => (PORTS, near(random, bridge.ports)),
         1 => (VLAN_COUNT, near(random, vlans)),
         2 => (STATIC_COUNT, near(random, statics)),
         3 => (VLAN_TOTAL, near(random, bridge.active_vlans() as u32)[2..].to_vec()),
+        4 => (EDITION, vec![random.pick(&[0, 1, 1, 2, 2, 3, 255])]),
         _ => (ADDRESS + random.below(16), vec![random.octet()]),
     }
 }
@@ -93,7 +94,8 @@ fn cell(random: &mut Random, bridge: &Bridge) -> Poke {
     let ports = if random.chance(20) { 64 } else { bridge.ports };
     let place = random.below(instances(object, ports));
     let any = random.number() as u32;
-    let values = [low, high, low.wrapping_sub(1), high + 1, low | 0x8000_0000, low + 0x0001_0000, 0, any];
+    let stepped = random.within(low, high) & !0xF;
+    let values = [low, high, low.wrapping_sub(1), high + 1, low | 0x8000_0000, low + 0x0001_0000, 0, stepped, any];
     (start + 4 * place, number(random.pick(&values)))
 }
 

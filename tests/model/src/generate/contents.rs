@@ -2,7 +2,7 @@
 
 use crate::model::bridge::{all_ports, timers_agree, Bridge, PortSet, TIMERS};
 use crate::model::message::Content;
-use crate::model::names::{type_of, ObjectType, Syntax};
+use crate::model::names::{takes, type_of, Object, ObjectType, Syntax};
 use crate::random::Random;
 
 /// A set of ports 1..N: few, many, all or none.
@@ -38,9 +38,7 @@ pub fn timers(random: &mut Random, mut timers: [u32; 3]) -> ([u32; 3], [bool; 3]
             1 => [max_age / 2 - 100; 2],
             _ => [max_age.div_ceil(2) + 100; 2],
         };
-        let (Syntax::Integer(low, high) | Syntax::Unsigned(low, high)) = type_of(TIMERS[*place]).syntax else {
-            unreachable!("a timer is a number")
-        };
+        let (low, high) = range(TIMERS[*place]);
         let near = random.pick(&limits) + random.pick(&[0, 1, 1, 2, 3]) - 1;
         let anywhere = random.within(low, high);
         timers[*place] = random.pick(&[near, near, anywhere]).clamp(low, high);
@@ -59,11 +57,31 @@ pub fn agreeing_timers(random: &mut Random, old: [u32; 3]) -> ([u32; 3], [bool; 
     }
 }
 
+/// A number that an object of this edition takes, the least and the most more often.
+pub fn taken_number(random: &mut Random, object: Object, edition: u32) -> u32 {
+    let (low, high) = range(object);
+    loop {
+        // Steps are met by a number that is cut to one.
+        let number = random.within(low, high) & random.pick(&[!0, !0xF, !0xFFF]);
+        if number >= low && takes(object, edition, number) {
+            return number;
+        }
+    }
+}
+
+/// The range of an object's numbers, whatever the edition.
+fn range(object: Object) -> (u32, u32) {
+    match type_of(object).syntax {
+        Syntax::Integer(low, high) | Syntax::Unsigned(low, high) => (low, high),
+        _ => unreachable!("{object:?} has no numbers"),
+    }
+}
+
 /// Right in type, length and value.
 pub fn right(random: &mut Random, bridge: &Bridge, entry: &ObjectType) -> Content {
     match entry.syntax {
-        Syntax::Integer(low, high) => Content::Integer(random.within(low, high) as i32),
-        Syntax::Unsigned(low, high) => Content::Unsigned(random.within(low, high)),
+        Syntax::Integer(..) => Content::Integer(taken_number(random, entry.object, bridge.edition) as i32),
+        Syntax::Unsigned(..) => Content::Unsigned(taken_number(random, entry.object, bridge.edition)),
         Syntax::Counter => Content::Counter(random.number() as u32),
         Syntax::Address => Content::String(random.octets(6)),
         Syntax::Text => {
@@ -115,11 +133,26 @@ pub fn wrong_length(random: &mut Random, entry: &ObjectType) -> Option<Content> 
     Some(Content::String(if zero { vec![0; octets] } else { random.octets(octets) }))
 }
 
+/// A priority in the old range that is between two of the newer edition's; none where the object is no priority.
+pub fn priority_beside_a_step(random: &mut Random, object: Object) -> Option<u32> {
+    let step = match object {
+        Object::StpPriority => 4096,
+        Object::StpPortPriority => 16,
+        _ => return None,
+    };
+    let below = step * random.within(0, 15);
+    Some(below + random.pick(&[1, step / 2, step - 1]))
+}
+
 /// None where the object's type has no wrong value.
 pub fn wrong_value(random: &mut Random, bridge: &Bridge, entry: &ObjectType) -> Option<Content> {
     let negative = -1 - random.below(70_000) as i32;
     let far = random.pick(&[i32::MIN, i32::MAX, -1, negative]);
+    let beside = priority_beside_a_step(random, entry.object);
     Some(match entry.syntax {
+        Syntax::Integer(..) if bridge.edition == 2 && beside.is_some() && random.chance(70) => {
+            Content::Integer(beside? as i32)
+        }
         Syntax::Integer(low, high) => Content::Integer(random.pick(&[low as i32 - 1, high as i32 + 1, far])),
         Syntax::Unsigned(_, high) => Content::Unsigned(random.pick(&[0, high + 1, 65536 + 1, 0x8000_0001, u32::MAX])),
         Syntax::RowStatus => Content::Integer(random.pick(&[0, 3, 7, 260, far])),

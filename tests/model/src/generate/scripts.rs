@@ -16,14 +16,15 @@ use crate::step::Step;
 type Script = fn(&mut Random, &Bridge) -> Vec<Step>;
 
 /// All scripts, and how often each comes among a hundred.
-pub const SCRIPTS: [(&str, usize, Script); 19] = [
-    ("get", 10, |random, bridge| call(random, bridge, Kind::Get, any_names)),
-    ("get-next", 10, |random, bridge| call(random, bridge, Kind::GetNext, any_names)),
+pub const SCRIPTS: [(&str, usize, Script); 20] = [
+    ("get", 9, |random, bridge| call(random, bridge, Kind::Get, any_names)),
+    ("get-next", 9, |random, bridge| call(random, bridge, Kind::GetNext, any_names)),
     ("walk of a part", 3, walk_of_a_part),
     ("whole walk", 1, whole_walk),
     ("set and gets", 8, set_and_gets),
     ("faulty set", 11, |random, bridge| call(random, bridge, Kind::Set, sets::faulty)),
     ("timers", 4, |random, bridge| call(random, bridge, Kind::Set, sets::timers_together)),
+    ("priorities", 2, |random, bridge| call(random, bridge, Kind::Set, sets::priorities)),
     ("crowded set", 6, |random, bridge| call(random, bridge, Kind::Set, sets::crowded)),
     ("exchange of Egress and Forbidden", 2, exchange),
     ("rows made and removed", 9, |random, bridge| call(random, bridge, Kind::Set, sets::at_full)),

@@ -1,7 +1,8 @@
 //! Set messages: those that should be accepted, those with a seeded fault, and bindings crowded on a few rows.
 
 use super::contents::{
-    agreeing_timers, any, port_octets, port_set, right, timers, wrong_length, wrong_type, wrong_value,
+    agreeing_timers, any, port_octets, port_set, priority_beside_a_step, right, taken_number, timers, wrong_length,
+    wrong_type, wrong_value,
 };
 use super::names::{any_name, impossible_index, object, possible_index, present_index};
 use crate::model::bridge::{Bridge, MOST_ROWS, TIMERS};
@@ -67,6 +68,22 @@ pub fn timers_together(random: &mut Random, bridge: &Bridge) -> Vec<Binding> {
         let others: Vec<Binding> = careful(random, bridge).into_iter().filter(|binding| !is_timer(binding)).collect();
         group.extend(others.into_iter().take(3));
         random.shuffle(&mut group);
+    }
+    group
+}
+
+/// Priorities on the newer edition's steps and beside them, whatever the edition is.
+pub fn priorities(random: &mut Random, bridge: &Bridge) -> Vec<Binding> {
+    let mut group = Vec::new();
+    for _ in 0..1 + random.below(3) {
+        let entry = type_of(random.pick(&[Object::StpPriority, Object::StpPortPriority]));
+        let index = possible_index(random, bridge, entry.shape);
+        let on_a_step = taken_number(random, entry.object, 2);
+        let number = match priority_beside_a_step(random, entry.object) {
+            Some(number) if random.chance(40) => number,
+            _ => on_a_step,
+        };
+        add(&mut group, vec![bind(entry.object, &index, Content::Integer(number as i32))]);
     }
     group
 }

@@ -1,8 +1,7 @@
 //! Bridges that a history starts from.
 
-use super::contents::{agreeing_timers, port_set};
+use super::contents::{agreeing_timers, port_set, taken_number};
 use crate::model::bridge::{Bridge, StaticRow, VlanRow, TIMERS};
-use crate::model::names::{type_of, Syntax};
 use crate::random::Random;
 
 /// Numbers of ports on both sides of every octet border, and the ends.
@@ -16,20 +15,24 @@ pub fn ports(random: &mut Random) -> u32 {
     }
 }
 
+pub fn edition(random: &mut Random) -> u32 {
+    random.pick(&[1, 2])
+}
+
 pub fn address(random: &mut Random) -> [u8; 6] {
     random.octets(6).try_into().unwrap()
 }
 
 /// Random numbers in every range, timers that belong together, and tables of few, many or all the rows they can have.
 pub fn filled(random: &mut Random, mut bridge: Bridge) -> Bridge {
+    let edition = bridge.edition;
     let (timers, _) = agreeing_timers(random, bridge.timers());
     for (timer, number) in TIMERS.iter().zip(timers) {
         bridge.settings.insert(*timer, vec![number]);
     }
     for (object, numbers) in bridge.settings.iter_mut().filter(|(object, _)| !TIMERS.contains(object)) {
-        let (Syntax::Integer(low, high) | Syntax::Unsigned(low, high)) = type_of(*object).syntax else { continue };
         if random.chance(70) {
-            numbers.iter_mut().for_each(|number| *number = random.within(low, high));
+            numbers.iter_mut().for_each(|number| *number = taken_number(random, *object, edition));
         }
     }
     let any = random.number() as u32;

@@ -1,7 +1,7 @@
 //! What one bridge holds, its instances in order, and what each of them reads.
 
 use super::message::Content;
-use super::names::{can_have, type_of, Object, Shape, TABLE};
+use super::names::{can_have, type_of, Object, Shape, EDITIONS, TABLE};
 use std::collections::BTreeMap;
 use std::ops::Bound::{Excluded, Included, Unbounded};
 
@@ -41,6 +41,8 @@ pub struct StaticRow {
 #[derive(Clone, PartialEq, Eq, Debug)]
 pub struct Bridge {
     pub ports: u32,
+    /// 1 old, 2 new: which priorities there are (E4).
+    pub edition: u32,
     pub address: [u8; 6],
     /// For each object whose instances always stand: its numbers, in the order of its instances.
     pub settings: BTreeMap<Object, Vec<u32>>,
@@ -61,9 +63,9 @@ pub fn timers_agree([max_age, hello_time, forward_delay]: [u32; 3]) -> bool {
 
 impl Bridge {
     /// A fresh bridge; none where there is no such bridge.
-    pub fn fresh(ports: u32, address: &[u8]) -> Option<Bridge> {
+    pub fn fresh(ports: u32, edition: u32, address: &[u8]) -> Option<Bridge> {
         let address = address.try_into().ok()?;
-        if !(1..=64).contains(&ports) {
+        if !(1..=64).contains(&ports) || !EDITIONS.contains(&edition) {
             return None;
         }
         let fresh = |object| (0..instances(object, ports)).map(move |place| fresh_value(object, place)).collect();
@@ -72,6 +74,7 @@ impl Bridge {
         let first = VlanRow { active: true, egress: all, untagged: all, ..VlanRow::default() };
         Some(Bridge {
             ports,
+            edition,
             address,
             settings: settings.collect(),
             vlan_deletes: 0,

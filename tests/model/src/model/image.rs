@@ -1,7 +1,7 @@
 //! The 32,768 octets of a block, as docs/LAYOUT.md tells.
 
 use super::bridge::{all_ports, instances, timers_agree, Bridge, PortSet, StaticRow, VlanRow, MOST_ROWS};
-use super::names::{can_have, type_of, Object, Shape, Syntax};
+use super::names::{can_have, takes, Object, Shape, EDITIONS};
 use std::collections::BTreeMap;
 
 pub const BLOCK: usize = 32768;
@@ -11,6 +11,7 @@ pub const VLAN_COUNT: usize = 8;
 pub const STATIC_COUNT: usize = 12;
 pub const ADDRESS: usize = 16;
 pub const VLAN_TOTAL: usize = 22;
+pub const EDITION: usize = 24;
 pub const MAX_AGE: usize = 36;
 pub const VLAN_ROWS: usize = 6196;
 pub const VLAN_ROW: usize = 60;
@@ -45,6 +46,7 @@ impl Bridge {
         put(&mut block, STATIC_COUNT, &(self.statics.len() as u32).to_be_bytes());
         put(&mut block, ADDRESS, &self.address);
         put(&mut block, VLAN_TOTAL, &(self.active_vlans() as u16).to_be_bytes());
+        put(&mut block, EDITION, &[self.edition as u8]);
         for (object, start) in CELLS {
             for (place, number) in self.settings[&object].iter().enumerate() {
                 put(&mut block, start + 4 * place, &number.to_be_bytes());
@@ -72,12 +74,17 @@ impl Bridge {
         if !(1..=64).contains(&ports) {
             return None;
         }
+        let edition = u32::from(block[EDITION]);
+        if !EDITIONS.contains(&edition) {
+            return None;
+        }
         let mut settings = BTreeMap::new();
         for (object, start) in CELLS {
-            settings.insert(object, cells(block, object, start, ports)?);
+            settings.insert(object, cells(block, object, start, ports, edition)?);
         }
         let bridge = Bridge {
             ports,
+            edition,
             address: block[ADDRESS..ADDRESS + 6].try_into().unwrap(),
             settings,
             vlan_deletes: number(block, DELETES),
@@ -110,13 +117,10 @@ fn number(block: &[u8], start: usize) -> u32 {
     u32::from_be_bytes(block[start..start + 4].try_into().unwrap())
 }
 
-/// An object's numbers; none where one is out of range.
-fn cells(block: &[u8], object: Object, start: usize, ports: u32) -> Option<Vec<u32>> {
-    let (Syntax::Integer(low, high) | Syntax::Unsigned(low, high)) = type_of(object).syntax else {
-        unreachable!("{object:?} has no cells")
-    };
-    let within = |number: &u32| (low..=high).contains(number);
-    (0..instances(object, ports)).map(|place| Some(number(block, start + 4 * place)).filter(within)).collect()
+/// An object's numbers; none where it does not take one of them.
+fn cells(block: &[u8], object: Object, start: usize, ports: u32, edition: u32) -> Option<Vec<u32>> {
+    let taken = |number: &u32| takes(object, edition, *number);
+    (0..instances(object, ports)).map(|place| Some(number(block, start + 4 * place)).filter(taken)).collect()
 }
 
 fn row_count(block: &[u8], start: usize) -> Option<usize> {

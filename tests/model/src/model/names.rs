@@ -149,6 +149,21 @@ impl ObjectType {
     }
 }
 
+/// The editions of the priority rule (E4).
+pub const EDITIONS: std::ops::RangeInclusive<u32> = 1..=2;
+
+/// Whether an object whose instances always stand takes a number: its range, and in edition 2 the steps of priorities.
+pub fn takes(object: Object, edition: u32, number: u32) -> bool {
+    let (Syntax::Integer(low, high) | Syntax::Unsigned(low, high)) = type_of(object).syntax else {
+        unreachable!("{object:?} has no numbers")
+    };
+    match (edition, object) {
+        (2, Object::StpPriority) => number <= 61440 && number % 4096 == 0,
+        (2, Object::StpPortPriority) => number <= 240 && number % 16 == 0,
+        _ => (low..=high).contains(&number),
+    }
+}
+
 /// The object type of an object.
 pub fn type_of(object: Object) -> &'static ObjectType {
     &TABLE[object as usize]

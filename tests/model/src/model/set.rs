@@ -4,7 +4,7 @@ use super::bridge::{
     all_ports, place, timers_agree, Bridge, PortSet, StaticIndex, StaticRow, VlanRow, MOST_ROWS, TIMERS,
 };
 use super::message::{Binding, Content};
-use super::names::{can_have, split, Object, ObjectType, Shape, Syntax};
+use super::names::{can_have, split, takes, Object, ObjectType, Shape, Syntax};
 use std::collections::BTreeMap;
 
 /// The VLAN whose made row has all ports in Untagged.
@@ -98,11 +98,20 @@ impl Bridge {
         Ok(Write { object: found.object, index: index.to_vec(), row, value })
     }
 
+    fn judge_number(&self, object: Object, number: i64) -> Result<Value, Fault> {
+        let number = u32::try_from(number).map_err(|_| WRONG_VALUE)?;
+        if takes(object, self.edition, number) {
+            Ok(Value::Number(number))
+        } else {
+            Err(WRONG_VALUE)
+        }
+    }
+
     /// Type, then length, then value.
     fn judge_value(&self, found: &ObjectType, content: &Content) -> Result<Value, Fault> {
         match (found.syntax, content) {
-            (Syntax::Integer(low, high), Content::Integer(number)) => number_within((*number).into(), low, high),
-            (Syntax::Unsigned(low, high), Content::Unsigned(number)) => number_within((*number).into(), low, high),
+            (Syntax::Integer(..), Content::Integer(number)) => self.judge_number(found.object, (*number).into()),
+            (Syntax::Unsigned(..), Content::Unsigned(number)) => self.judge_number(found.object, (*number).into()),
             (Syntax::RowStatus, Content::Integer(3)) => Err(WRONG_VALUE),
             (Syntax::RowStatus, Content::Integer(status)) => number_within((*status).into(), 1, 6),
             (Syntax::StaticStatus, Content::Integer(status)) => number_within((*status).into(), 2, 5),
