@@ -3,8 +3,8 @@
  * The caller lends every octet that the library works on: a block that holds one bridge, a request, and a room for the answer. The library keeps
  * nothing between calls, takes no memory, and has no globals, so calls on different blocks may run at the same time.
  *
- * What every call does is an equation with a definition (in the specs of the crates answer, block, reset, timers, tally, datagram, console, walks and batch),
- * proved for all octets, lengths and numbers. What the caller must still promise, because C cannot show it to the library:
+ * What every call does is an equation with a definition (in the specs of the crates answer, block, reset, timers, tally, datagram, console, walks and
+ * batch), proved for all octets, lengths and numbers. What the caller must still promise, because C cannot show it to the library:
  *   - each pointer is valid for as many octets as the length beside it says: `block`, `state` and `room` to read and write, the others to read; a
  *     pointer is not NULL, not even with the length 0;
  *   - block, request and room do not overlap, and neither do block and address, nor datagram, message, community and
@@ -31,7 +31,6 @@ extern "C" {
 #define RB_CASES_MAX    65535u /* cases of a run */
 #define RB_CONSOLE_SIZE 1477u  /* a saved state of the serial console */
 #define RB_ENTRY_SIZE   20u    /* an entry of the list that a comparison of two walks writes */
-#define RB_FRAME_HEAD   5u     /* what stands before a message in its frame */
 #define RB_BATCH_MAX    64u    /* messages of a batch */
 
 /* Numbered returns. A refusal keeps every octet that is lent, and every other result is 0, but for the offset of 4 to 8. With 21 and 22 the room is kept too; a
@@ -58,9 +57,9 @@ enum rb_number {
     RB_PDU_NOT_TAKEN = 18,    /* a datagram: the call does not take this kind of PDU */
     RB_NO_COUNTERPART = 19,   /* a number, content or name has no counterpart in the other form */
     RB_DATAGRAM_LONG = 20,    /* a datagram or a message, given or to be written, has over 1,472 octets */
-    RB_CONSOLE_WRONG = 21,    /* console: a wrong header or inner length, or a saved state that no stream leaves; a batch: a wrong or cut frame */
-    RB_CONSOLE_LONG = 22,     /* console, batch: a message length over 1,472 */
-    RB_BATCH_LONG = 23,       /* a batch: octets behind 64 frames */
+    RB_CONSOLE_WRONG = 21,    /* console: a wrong header or inner length, or a saved state that no stream leaves; a batch: that, or a cut frame */
+    RB_CONSOLE_LONG = 22,     /* console and batch: a message length over 1,472 */
+    RB_BATCH_LONG = 23,       /* a batch: octets after 64 frames */
     RB_NOT_ASCENDING = 24,    /* a walk's names do not ascend strictly */
     RB_LIST_SHORT = 25        /* the list has not room for all entries of a comparison */
 };
@@ -172,25 +171,6 @@ rb_console rb_console_take(uint8_t *state, size_t state_len, const uint8_t *chun
 /* Makes a state fresh, whatever it held. Returns 0, or 21 where it has not 1,477 octets; the count is 0. */
 rb_result rb_console_reset(uint8_t *state, size_t state_len);
 
-/* A growing table. */
-enum rb_table { RB_TABLE_VLAN = 1, RB_TABLE_STATIC = 2 };
-
-/* What a check of a batch returns. Accepted: all 0. */
-typedef struct {
-    uint32_t number;  /* 0, 3, 4 to 8, 21, 22 or 23 */
-    uint32_t message; /* with 4 to 8: which message, from 1 */
-    uint32_t offset;  /* with 4 to 8: where in that message, as rb_answer tells it */
-    uint32_t first;   /* the first pair of messages that name a common row or scalar, from 1; first is below second */
-    uint32_t second;
-    uint32_t table;   /* where there is no such pair: the first table, one of rb_table, that has not room for all rows that are named */
-} rb_batch;
-
-/* Checks whether set messages may be played on the block in any order: each can be read, no two name a common row or scalar (the three bridge timers count as
- * one), and in each growing table the live rows and all absent rows that are named are at most 256. The batch is up to 64 messages, each in a frame as the
- * serial console has it; it may be empty. Returns 0, 3, 4 to 8 (7 for a message that is no set), 21, 22 or 23, judged 3 first and then from left to right.
- * Nothing is written. An accepted batch is answered with the same octets in every order, and leaves the same block. */
-rb_batch rb_check_batch(const uint8_t *block, size_t block_len, const uint8_t *batch, size_t batch_len);
-
 /* Whose walk it is. */
 enum rb_side { RB_REFERENCE = 1, RB_DEVICE = 2 };
 
@@ -228,6 +208,25 @@ enum rb_walk_entry {
  * under a ports column are port sets: they differ when their members do. Returns 0, 4 to 6, 24 or 25; a refusal writes no octet. The walks and the list do
  * not overlap; the two walks may be one. */
 rb_walks rb_compare_walks(const uint8_t *reference, size_t reference_len, const uint8_t *device, size_t device_len, uint8_t *list, size_t list_len);
+
+/* What the checker of batches returns. Accepted: all fields 0. With the number 0 either a pair is given, or, where no pair offends, a table; all else is 0. */
+typedef struct {
+    uint32_t number;  /* 0, 3 to 8, or 21 to 23 */
+    uint32_t message; /* with 4 to 8: the message's number, from 1 */
+    uint32_t offset;  /* with 4 to 8: from that message's first octet */
+    uint32_t first;   /* the first two messages that name a common row or scalar, by their numbers from 1, the lower number first */
+    uint32_t second;
+    uint32_t table; /* one of rb_table: the first table that has not room for all absent rows that the messages name */
+} rb_batch;
+
+/* The tables that grow, in the order in which they are judged. */
+enum rb_table { RB_TABLE_VLAN = 1, RB_TABLE_STATIC = 2 };
+
+/* Checks whether the set messages of a batch may be played in any order on a block: every message is readable, no two name a common row or scalar (the three
+ * bridge timers are one scalar), and in each table that grows the live rows and the absent rows that are named are at most 256. The batch is at most 64
+ * messages, each in a frame as on the serial console. Returns 0, 3, and then, from the left, 21 to 23 for frames and 4 to 8 for messages; a message that is
+ * no set is 7. It writes nothing. Block and batch may overlap. */
+rb_batch rb_check_batch(const uint8_t *block, size_t block_len, const uint8_t *batch, size_t batch_len);
 
 /* What reading a datagram returns: one of rb_number, the length of the message in the room, and where the community stands in the datagram. All but the
  * number are 0 unless the number is 0. */

@@ -11,7 +11,7 @@ use lib.Seq.{drop-drop, take-all, take-suc-set, getD-set-same, getD-set-other}
 use borrow.Author.Tests.{eqb-true, eqb-false, ltb-true, ltb-false, lt-ltb, le-ltb}
 use Rattle.console.specs.Frames.{heading, filling, fresh, Step, inside, whole, wrong, arrived, run}
 use Rattle.console.specs.Places.{meant, moved, HeadOf}
-use Rattle.console.specs.Batch.{Within, noSpan, AllWithin, mostFrames, led, framesOf, octetsAt, Means}
+use Rattle.console.specs.Batch.{Within, noSpan, AllWithin, mostFrames, framesMany, led, framesOf, octetsAt, Means}
 use Rattle.console.specs.declared.header.Head.{Head}
 use Rattle.console.specs.declared.frames.Span.{Span}
 use Rattle.console.specs.declared.frames.Framed.{Framed}
@@ -55,17 +55,21 @@ module _ (b : List ℕ) (at : ℕ) {h : Head} (w : HeadOf (drop at b) 0 0 h) whe
   runs {s} e = w .means ∙ ap (λ (u : Step). moved (h .taken) (run (drop (h .taken) (drop at b)) u)) e
 
   pub frame-wrong : (h .number ≡ 0 → ⊥) → Means b at (Refused (h .number))
-  frame-wrong n r =
-      led-wrong (h .number) r
-      (ap (λ (u : ℕ × Step). u .1) (runs (meant-wrong (h .count) (h .size) n) ∙ ap (moved (h .taken)) (run-wrong (drop (h .taken) (drop at b)) (h .number))))
+  frame-wrong n = (
+    n,
+    λ r. led-wrong (h .number) r
+        (ap (λ (u : ℕ × Step). u .1) (runs (meant-wrong (h .count) (h .size) n) ∙ ap (moved (h .taken)) (run-wrong (drop (h .taken) (drop at b)) (h .number)))),
+  )
 
   pub frame-short : h .number ≡ 0 → (h .count ≡ 5 → ⊥) → Means b at (Refused 21)
-  frame-short n c r =
-      led-cut (h .count) (h .size) r
-      (ap (λ (u : ℕ × Step). u .1)
-      (runs (ap (λ (i : ℕ). meant i (h .count) (h .size)) n ∙ meant-inside (h .count) (h .size) c)
-      ∙ ap (λ (u : List ℕ). moved (h .taken) (run u (inside (heading (h .count) (h .size))))) (w .used n c)
-      ∙ ap (moved (h .taken)) (run-none (inside (heading (h .count) (h .size))))))
+  frame-short n c = (
+    λ z. omega (arith, z),
+    λ r. led-cut (h .count) (h .size) r
+        (ap (λ (u : ℕ × Step). u .1)
+        (runs (ap (λ (i : ℕ). meant i (h .count) (h .size)) n ∙ meant-inside (h .count) (h .size) c)
+        ∙ ap (λ (u : List ℕ). moved (h .taken) (run u (inside (heading (h .count) (h .size))))) (w .used n c)
+        ∙ ap (moved (h .taken)) (run-none (inside (heading (h .count) (h .size)))))),
+  )
 
   module _ (n : h .number ≡ 0) (c : h .count ≡ 5) where
     contents-run : run (drop at b) (inside fresh) ≡ moved (h .taken) (run (drop (at + h .taken) b) (arrived (h .size) []))
@@ -74,10 +78,12 @@ module _ (b : List ℕ) (at : ℕ) {h : Head} (w : HeadOf (drop at b) 0 0 h) whe
         ∙ ap (λ (u : List ℕ). moved (h .taken) (run u (arrived (h .size) []))) (drop-drop (h .taken) at b)
 
     pub frame-cut : length b - (at + h .taken) < h .size → Means b at (Refused 21)
-    frame-cut l r =
+    frame-cut l =
         let os : List ℕ = drop (at + h .taken) b in
-        let m : length os ≡ length b - (at + h .taken) = length-drop (at + h .taken) b in
-        led-part (h .size) os r (ap (λ (u : ℕ × Step). u .1) (contents-run ∙ ap (moved (h .taken)) (fills-part (h .size) [] os (omega arith))))
+        let m : length os ≡ length b - (at + h .taken) = length-drop (at + h .taken) b in (
+          λ z. omega (arith, z),
+          λ r. led-part (h .size) os r (ap (λ (u : ℕ × Step). u .1) (contents-run ∙ ap (moved (h .taken)) (fills-part (h .size) [] os (omega arith)))),
+        )
 
     pub frame-whole : at ≤ length b → h .size ≤ length b - (at + h .taken) → Means b at (Whole (record { start = at + h .taken; len = h .size }))
     frame-whole k l =
@@ -112,6 +118,29 @@ from-next : (n : ℕ) (xs : List ℕ) → 0 < length xs → framesOf (suc n) xs 
 unfolding framesOf
 from-next n xs h = rw (lt-ltb 0 (length xs) h)
 
+-- the frames from a place on, by the frame that stands there
+pub frames-end : (n : ℕ) (b : List ℕ) (at : ℕ) → length b ≤ at → framesOf n (drop at b) ≡ ([], 0)
+frames-end n b at h = from-end n (drop at b) (drop-of-length-le b {i = at} h)
+
+module _ (b : List ℕ) (at : ℕ) (h : at < length b) where
+  some-left : 0 < length (drop at b)
+  some-left = rw length-drop (omega arith)
+
+  pub frames-full : framesOf 0 (drop at b) ≡ ([], framesMany)
+  frames-full = from-full (drop at b) some-left
+
+  pub frames-refused : (n r : ℕ) → Means b at (Refused r) → framesOf (suc n) (drop at b) ≡ ([], r)
+  frames-refused n r m = from-next n (drop at b) some-left ∙ m .1 (framesOf n (drop (run (drop at b) (inside fresh) .0) (drop at b)))
+
+  pub frames-whole : (n : ℕ) (s : Span) → Means b at (Whole s)
+      → framesOf (suc n) (drop at b) ≡ (octetsAt b s ∷ framesOf n (drop (s .start + s .len) b) .0, framesOf n (drop (s .start + s .len) b) .1)
+  frames-whole n s m =
+      let j : at + (s .start + s .len - at) ≡ s .start + s .len = omega (arith, m .0) in
+      let d : drop (run (drop at b) (inside fresh) .0) (drop at b) ≡ drop (s .start + s .len) b =
+      ap (λ (u : ℕ × Step). drop (u .0) (drop at b)) (m .2) ∙ drop-drop (s .start + s .len - at) at b ∙ ap (λ (i : ℕ). drop i b) j in
+      from-next n (drop at b) some-left ∙ ap (λ (u : List ℕ). led (run (drop at b) (inside fresh) .1) (framesOf n u)) d
+      ∙ led-whole (octetsAt b s) (framesOf n (drop (s .start + s .len) b)) (ap (λ (u : ℕ × Step). u .1) (m .2))
+
 -- n frames are found, and the next one starts at `at`
 pub record Sofar (b : List ℕ) (spans : List Span) (n at : ℕ) : Type 0 where
   pub few : n ≤ mostFrames
@@ -133,29 +162,24 @@ sofar-none b spans h = record { few = omega arith; within = omega arith; long = 
 module _ {b : List ℕ} {spans : List Span} {n at : ℕ} (w : Sofar b spans n at) where
   pub sofar-all : length b ≤ at → (map (octetsAt b) (take n spans), 0) ≡ framesOf mostFrames b
   sofar-all h =
-      let e : framesOf (mostFrames - n) (drop at b) ≡ ([], 0) = from-end (mostFrames - n) (drop at b) (drop-of-length-le b {i = at} h) in
+      let e : framesOf (mostFrames - n) (drop at b) ≡ ([], 0) = frames-end (mostFrames - n) b at h in
       ap (λ (u : List (List ℕ)). (u, 0)) (sym (append-nil (map (octetsAt b) (take n spans)))) ∙ (rw e at (w .rest))
 
   module _ (h : at < length b) where
-    some-left : 0 < length (drop at b)
-    some-left = rw length-drop (omega arith)
-
     pub sofar-full : n ≡ mostFrames → (map (octetsAt b) (take n spans), 23) ≡ framesOf mostFrames b
     sofar-full k =
         let z : mostFrames - n ≡ 0 = omega arith in
-        let e : framesOf (mostFrames - n) (drop at b) ≡ ([], 23) = rw z (from-full (drop at b) some-left) in
+        let e : framesOf (mostFrames - n) (drop at b) ≡ ([], 23) = rw z (frames-full b at h) in
         ap (λ (u : List (List ℕ)). (u, 23)) (sym (append-nil (map (octetsAt b) (take n spans)))) ∙ (rw e at (w .rest))
 
     module _ (k : n < mostFrames) where
-      next : framesOf (mostFrames - n) (drop at b) ≡ led (run (drop at b) (inside fresh) .1) (framesOf (mostFrames - suc n) (drop (run (drop at b) (inside fresh) .0) (drop at b)))
-      next =
-          let z : mostFrames - n ≡ suc (mostFrames - suc n) = omega arith in
-          rw z (from-next (mostFrames - suc n) (drop at b) some-left)
+      more : mostFrames - n ≡ suc (mostFrames - suc n)
+      more = omega arith
 
       pub sofar-refused : {r : ℕ} {f : Framed} → f ≡ Refused r → Means b at f → (map (octetsAt b) (take n spans), r) ≡ framesOf mostFrames b
       sofar-refused {r} q u =
           let m : Means b at (Refused r) = rw q at u in
-          let e : framesOf (mostFrames - n) (drop at b) ≡ ([], r) = next ∙ m (framesOf (mostFrames - suc n) (drop (run (drop at b) (inside fresh) .0) (drop at b))) in
+          let e : framesOf (mostFrames - n) (drop at b) ≡ ([], r) = rw more (frames-refused b at h (mostFrames - suc n) r m) in
           ap (λ (u : List (List ℕ)). (u, r)) (sym (append-nil (map (octetsAt b) (take n spans)))) ∙ (rw e at (w .rest))
 
       pub found-within : {s : Span} {f : Framed} → f ≡ Whole s → Means b at f → s .start + s .len ≤ length b
@@ -167,13 +191,8 @@ module _ {b : List ℕ} {spans : List Span} {n at : ℕ} (w : Sofar b spans n at
       sofar-more {s} q u =
           let m : Means b at (Whole s) = rw q at u in
           let taken : take (suc n) (set spans n s) ≡ take n spans ++ (s ∷ []) = take-suc-set spans n s (omega (arith, w .long)) in
-          let j : at + (s .start + s .len - at) ≡ s .start + s .len = omega (arith, m .0) in
-          let d : drop (run (drop at b) (inside fresh) .0) (drop at b) ≡ drop (s .start + s .len) b =
-          ap (λ (u : ℕ × Step). drop (u .0) (drop at b)) (m .2) ∙ drop-drop (s .start + s .len - at) at b ∙ ap (λ (i : ℕ). drop i b) j in
           let later : List (List ℕ) × ℕ = framesOf (mostFrames - suc n) (drop (s .start + s .len) b) in
-          let e : framesOf (mostFrames - n) (drop at b) ≡ (octetsAt b s ∷ later .0, later .1) =
-          next ∙ ap (λ (u : List ℕ). led (run (drop at b) (inside fresh) .1) (framesOf (mostFrames - suc n) u)) d
-          ∙ led-whole (octetsAt b s) later (ap (λ (u : ℕ × Step). u .1) (m .2)) in
+          let e : framesOf (mostFrames - n) (drop at b) ≡ (octetsAt b s ∷ later .0, later .1) = rw more (frames-whole b at h (mostFrames - suc n) s m) in
           let ms : List (List ℕ) = map (octetsAt b) (take n spans) in
           let joined : map (octetsAt b) (take (suc n) (set spans n s)) ≡ ms ++ (octetsAt b s ∷ []) = ap (map (octetsAt b)) taken ∙ map-append (octetsAt b) (take n spans) (s ∷ []) in
           record {

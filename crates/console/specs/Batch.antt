@@ -49,4 +49,4 @@ AllWithin b spans n = (i : ℕ) → i < n → Within b (getD spans i noSpan)
 -- what the code finds at index at: a message in its place, or the number that ends the batch whatever follows
 abbrev pub Means : (b : List ℕ) (at : ℕ) → Framed → Type 0
 Means b at (Whole s) = (at ≤ s .start) × Within b s × (run (drop at b) (inside fresh) ≡ (s .start + s .len - at, whole (octetsAt b s)))
-Means b at (Refused n) = ((r : List (List ℕ) × ℕ) → led (run (drop at b) (inside fresh) .1) r ≡ ([], n))
+Means b at (Refused n) = (n ≡ 0 → ⊥) × ((r : List (List ℕ) × ℕ) → led (run (drop at b) (inside fresh) .1) r ≡ ([], n))

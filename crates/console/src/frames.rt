@@ -26,14 +26,14 @@ pub struct Frames {
     pub spans: [Span; 64],
 }
 
-const MOST_FRAMES: usize = 64;
+pub const MOST_FRAMES: usize = 64;
 
-const FRAMES_MANY: u32 = 23;
+pub const FRAMES_MANY: u32 = 23;
 
 const NO_SPAN: Span = Span { start: 0, len: 0 };
 
 // The frame that starts at index at.
-fn frame_at(batch: &[u8], at: usize) -> Framed
+pub fn frame_at(batch: &[u8], at: usize) -> Framed
     requires { ⌜ at ≤ length (now batch) ⌝ }
     ensures { λ r. ⌜ Means (now (batch .entry)) at r ⌝ }
 {

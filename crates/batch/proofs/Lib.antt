@@ -1,0 +1,14 @@
+pub mod NameLaws
+pub mod PairLaws
+pub mod CheckLaws
+pub mod FrameLaws
+pub mod OrderLaws
+pub mod AcceptLaws
+pub mod TurnLaws
+pub mod TargetLaws
+pub mod ReadingLaws
+pub mod RoomLaws
+pub mod SearchLaws
+pub mod CallLaws
+pub mod Theorems
+pub mod Example

@@ -1,0 +1,82 @@
+-- What the code's values mean. Assumes nothing.
+use Prim.Native.Nat.{ℕ, _+_, _-_, _≤_, _<_}
+use mathlib.Core.Path.{_≡_}
+use mathlib.Core.Bool.{true, cond}
+use mathlib.Core.Option.{Option, none, some}
+use mathlib.Core.List.{List, [], _∷_, map}
+use lib.Dec.{eqb}
+use lib.ListN.{length, take, drop}
+use Rattle.octets.specs.Parts.{part}
+use Rattle.names.specs.SubIds.{subids}
+use Rattle.message.specs.Request.{refused, readRequest}
+use Rattle.message.specs.declared.request.Binding.{Binding}
+use Rattle.answer.specs.Tables.{Table, vlan, static}
+use Rattle.answer.specs.Terms.{absent, isSet}
+use Rattle.answer.specs.Theorems.{Every}
+use Rattle.console.specs.Batch.{mostFrames, framesOf}
+use Rattle.answer.specs.Judge.{groupOf}
+use Rattle.batch.specs.Names.{Group, groupsOf, keysAt}
+use Rattle.batch.specs.Check.{refusedWith, readSet, readThen, eachRead}
+use Rattle.batch.specs.declared.RbBatch.{RbBatch}
+use Rattle.batch.specs.declared.groups.Target.{Target}
+use Rattle.batch.specs.declared.groups.Targets.{Targets}
+use Rattle.batch.specs.declared.reads.SetRead.{SetRead}
+use Rattle.batch.specs.declared.reads.SetRead.the-variants.{Taken, Refused}
+use Rattle.batch.specs.declared.room.Grows.{Grows}
+use Rattle.batch.specs.declared.room.Grows.the-variants.{Vlan, Static}
+
+-- the row or scalar of a place and a key; past the object table there is none
+abbrev pub meant : Target → Option Group
+meant t = cond (eqb (t .table) 35) none (some (t .table, t .key))
+
+-- what stands past an array of targets
+abbrev pub noTarget : Target
+noTarget = record { table = 0; key = 0 }
+
+-- what a message names
+abbrev pub targets : Targets → List (Option Group)
+targets r = map meant (take (r .count) (r .all))
+
+abbrev pub Few : Targets → Type 0
+Few r = (r .count ≤ 16) × (length (r .all) ≡ 16)
+
+-- what a binding of the message m names
+abbrev pub groupAt : (ports : ℕ) → List ℕ → Binding → Option Group
+groupAt n m b = groupOf n (subids (part m (b .name) (b .size)))
+
+-- the messages from index at of a batch on, of which the first has the number i, and the number that ends them
+abbrev pub framesFrom : List ℕ → (at i : ℕ) → List (List ℕ) × ℕ
+framesFrom b at i = framesOf (mostFrames + 1 - i) (drop at b)
+
+-- what they name
+abbrev pub namedFrom : (ports : ℕ) → List ℕ → (at i : ℕ) → List (List (Option Group))
+namedFrom n b at i = map (groupsOf n) (framesFrom b at i .0)
+
+-- what is said of them left to right, as far as refusals go
+abbrev pub readFrom : List ℕ → (at i : ℕ) → RbBatch
+readFrom b at i = eachRead i (framesFrom b at i .0) (refusedWith (framesFrom b at i .1))
+
+-- a frame that is not wrong starts at index at
+abbrev pub Goes : List ℕ → (at : ℕ) → Type 0
+Goes b at = (at < length b) × ((n : ℕ) × (framesOf n (drop at b) .1 ≡ 0))
+
+-- no frame from index at on is wrong, and every message is a set
+pub record SetsFrom (b : List ℕ) (at i : ℕ) : Type 0 where
+  pub within : at ≤ length b
+  pub right : framesFrom b at i .1 ≡ 0
+  pub sets : Every (λ m. isSet (readRequest m) ≡ true) (framesFrom b at i .0)
+
+-- a message as a set: it is one, or its refusal
+abbrev pub SetMeans : List ℕ → SetRead → Type 0
+SetMeans m Taken = (i : ℕ) (v : RbBatch) → readThen i (readSet m) v ≡ v
+SetMeans m (Refused r) = (readSet m ≡ refused r) × (r .at ≤ length m)
+
+-- the growing table that the code means
+abbrev pub tableFor : Grows → Table
+tableFor Vlan = vlan
+tableFor Static = static
+
+-- the absent rows that messages name, counted message by message
+unfoldable pub absentEach : {R : Type 0} → List (ℕ × R) → (column : ℕ) → List (List (Option Group)) → ℕ
+absentEach t c [] = 0
+absentEach t c (gs ∷ gss) = absent t (keysAt c gs) + absentEach t c gss
