@@ -14,7 +14,8 @@ use crate::random::Random;
 /// A fresh bridge, or one with numbers and rows of all kinds; its tables are often full or nearly so.
 pub fn bridge(random: &mut Random) -> Bridge {
     let ports = start::ports(random);
-    let fresh = Bridge::fresh(ports, &start::address(random)).expect("ports and an address");
+    let edition = start::edition(random);
+    let fresh = Bridge::fresh(ports, edition, &start::address(random)).expect("ports, an edition and an address");
     if random.chance(20) {
         return fresh;
     }
