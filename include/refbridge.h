@@ -179,6 +179,25 @@ rb_console rb_console_take(uint8_t *state, size_t state_len, const uint8_t *chun
 /* Makes a state fresh, whatever it held. Returns 0, or 21 where it has not 1,477 octets; the count is 0. */
 rb_result rb_console_reset(uint8_t *state, size_t state_len);
 
+/* A growing table. */
+enum rb_table { RB_TABLE_VLAN = 1, RB_TABLE_STATIC = 2 };
+
+/* What a check of a batch returns. Accepted: all 0. */
+typedef struct {
+    uint32_t number;  /* 0, 3, 4 to 8, 21, 22 or 23 */
+    uint32_t message; /* with 4 to 8: which message, from 1 */
+    uint32_t offset;  /* with 4 to 8: where in that message, as rb_answer tells it */
+    uint32_t first;   /* the first pair of messages that name a common row or scalar, from 1; first is below second */
+    uint32_t second;
+    uint32_t table;   /* where there is no such pair: the first table, one of rb_table, that has not room for all rows that are named */
+} rb_batch;
+
+/* Checks whether set messages may be played on the block in any order: each can be read, no two name a common row or scalar (the three bridge timers count as
+ * one), and in each growing table the live rows and all absent rows that are named are at most 256. The batch is up to 64 messages, each in a frame as the
+ * serial console has it; it may be empty. Returns 0, 3, 4 to 8 (7 for a message that is no set), 21, 22 or 23, judged 3 first and then from left to right.
+ * Nothing is written. An accepted batch is answered with the same octets in every order, and leaves the same block. */
+rb_batch rb_check_batch(const uint8_t *block, size_t block_len, const uint8_t *batch, size_t batch_len);
+
 /* Whose walk it is. */
 enum rb_side { RB_REFERENCE = 1, RB_DEVICE = 2 };
 

@@ -46,10 +46,11 @@ same-length-2 c = search needs
 
 returns : tie.Need-returns
 returns c =
-    let a = c .before .before .before .before .before .before .before .before .before .before .before .before .args in
+    let d = c .before .before .before .before .before .before .before .before .before .before .before .before in
+    let a = d .args in
     let em : a .s .start + a .s .len - a .s .start ≡ a .s .len = omega arith in
     let en : mostOctets * a .k + mostOctets - mostOctets * a .k ≡ mostOctets = omega arith in
-    turned (a .block .now) (a .batch .now) (a .rooms .now) (a .s) (a .k) (c .before .before .before .before .before .before .before .before .before .before .before .before .pre .1) (c .before .before .before .before .before .before .before .before .before .before .before .before .pre .2) em en (omega arith) (c .before .before .before .before .rb-answer .ensures)
+    turned (a .block .now) (a .batch .now) (a .rooms .now) (a .s) (a .k) (d .pre .1) (d .pre .2) em en (omega arith) (c .before .before .before .before .rb-answer .ensures)
 
 pub play-turn-spec : {M : Type 1} → statement M
 play-turn-spec =
