@@ -5,7 +5,6 @@ use crate::model::bridge::{Bridge, MOST_ROWS};
 use crate::model::calls::BLOCK_NOT_LEGAL;
 use crate::model::console::{Event, Stream, HEADER_WRONG};
 use crate::model::message::{read, Binding, Refusal, WRONG_HEAD};
-use crate::model::names::{type_of, Object};
 use crate::model::terms::{named_by, GrowingTable, Named};
 use std::collections::BTreeSet;
 
@@ -16,9 +15,6 @@ pub const BATCH_LONG: u32 = 23;
 
 pub const VLAN_TABLE: u32 = 1;
 pub const STATIC_TABLE: u32 = 2;
-
-/// The three scalars that count as one (ruling 59).
-const TIMERS: [Object; 3] = [Object::BridgeMaxAge, Object::BridgeHelloTime, Object::BridgeForwardDelay];
 
 /// `rb_check_batch`.
 pub fn check(block: &[u8], batch: &[u8]) -> Batch {
@@ -81,17 +77,9 @@ fn read_set(message: &[u8]) -> Result<Vec<Binding>, Refusal> {
     Ok(read(message)?.bindings)
 }
 
-/// The rows and scalars that a message names, those of bindings at fault too.
+/// The rows and scalars that a message names, those of bindings at fault too; the three timers are one (ruling 59).
 pub fn names_of(bridge: &Bridge, bindings: &[Binding]) -> BTreeSet<Named> {
-    named_by(bridge.ports, bindings).into_iter().map(timers_joined).collect()
-}
-
-fn timers_joined(named: Named) -> Named {
-    let [first, ..] = TIMERS.map(|timer| type_of(timer).prefix);
-    match TIMERS.iter().any(|timer| named.table == type_of(*timer).prefix) {
-        true => Named { table: first, ..named },
-        false => named,
-    }
+    named_by(bridge.ports, bindings)
 }
 
 /// The least lower number, then the least higher, of two messages that name something in common; counted from 0.
