@@ -7,7 +7,7 @@
 /* What is wanted of a call: milliseconds, and octets of stack. */
 enum { MOST_MILLISECONDS = 10, MOST_STACK = 4096 };
 
-enum { FRAME_HEAD = 5, BATCH_MAX = RB_BATCH_MAX * (FRAME_HEAD + RB_MESSAGE_MAX), PRIORITIES = 8, COLUMNS = 4, ABSENT_MAX = 255 };
+enum { BATCH_MAX = RB_BATCH_MAX * (RB_FRAME_HEAD + RB_MESSAGE_MAX), PRIORITIES = 8, COLUMNS = 4, ABSENT_MAX = 255 };
 
 /* A batch in octets, and the block that it is for. */
 struct batch {
@@ -74,11 +74,11 @@ static void add_message(struct batch *batch, uint32_t number, add_binding *add)
     for (uint32_t i = 0; i < RB_BINDINGS_MAX; i++) {
         add(&message, number * RB_BINDINGS_MAX + i);
     }
-    const uint8_t head[FRAME_HEAD] = {0x7F, 0, 2, (uint8_t)(message.count >> 8), (uint8_t)message.count};
+    const uint8_t head[RB_FRAME_HEAD] = {0x7F, 0, 2, (uint8_t)(message.count >> 8), (uint8_t)message.count};
 
-    memcpy(batch->octets + batch->length, head, FRAME_HEAD);
-    memcpy(batch->octets + batch->length + FRAME_HEAD, message.at, message.count);
-    batch->length += FRAME_HEAD + message.count;
+    memcpy(batch->octets + batch->length, head, RB_FRAME_HEAD);
+    memcpy(batch->octets + batch->length + RB_FRAME_HEAD, message.at, message.count);
+    batch->length += RB_FRAME_HEAD + message.count;
 }
 
 static void make_batch(struct batch *batch, size_t kind, const struct bridge *fresh, const struct bridge *full)
@@ -129,10 +129,10 @@ static size_t deepest(struct batch *batch)
     octets = depth_of(check, batch);
     most = octets > most ? octets : most;
     batch->length++;
-    batch->octets[FRAME_HEAD + KIND_AT] = RB_GET;
+    batch->octets[RB_FRAME_HEAD + KIND_AT] = RB_GET;
     octets = depth_of(check, batch);
     most = octets > most ? octets : most;
-    batch->octets[FRAME_HEAD + KIND_AT] = RB_SET;
+    batch->octets[RB_FRAME_HEAD + KIND_AT] = RB_SET;
     memcpy(damaged, batch->block, sizeof damaged);
     damaged[RB_BLOCK_SIZE - 1] = 1;
     batch->block = damaged;

@@ -9,7 +9,7 @@
 #include "refbridge.h"
 
 /* A frame is 7F, 00, 02, the message's length in two octets, and the message: 16 octets of head, here with one binding behind them. */
-enum { FRAME_HEAD = 5, MESSAGE_HEAD = 16, MESSAGES = 4, MESSAGE_MAX = 100 };
+enum { MESSAGE_HEAD = 16, MESSAGES = 4, MESSAGE_MAX = 100 };
 
 /* A name's sub-ids have four octets each. The bridge's names start with 1.3.6.1.2.1.17. */
 #define BRIDGE 0, 0, 0, 1, 0, 0, 0, 3, 0, 0, 0, 6, 0, 0, 0, 1, 0, 0, 0, 2, 0, 0, 0, 1, 0, 0, 0, 17
@@ -32,11 +32,11 @@ static void add(size_t at, const uint8_t *binding, size_t length)
     const uint8_t head[] = {0x7F, 0, 2, (uint8_t)(message >> 8), (uint8_t)message, RB_TAG_KIND, 0, 1, RB_SET, RB_TAG_ID, 0, 4, 0, 0, 0, (uint8_t)(at + 1),
                             RB_TAG_STATUS, 0, 2, 0, 0, RB_TAG_BINDING, (uint8_t)(length >> 8), (uint8_t)length};
 
-    starts[at] = batch_len + FRAME_HEAD;
+    starts[at] = batch_len + RB_FRAME_HEAD;
     lengths[at] = message;
     memcpy(batch + batch_len, head, sizeof head);
     memcpy(batch + batch_len + sizeof head, binding, length);
-    batch_len += FRAME_HEAD + message;
+    batch_len += RB_FRAME_HEAD + message;
 }
 
 static void print_check(const char *what, size_t length)

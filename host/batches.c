@@ -23,7 +23,7 @@ enum {
 };
 
 /* A frame is 7F, 00, 02, the message's length in two octets, and the message. One message more than a batch can have shows that there are too many. */
-enum { FRAME_HEAD = 5, KEPT_MAX = RB_BATCH_MAX + 1, SHOWN_MAX = 100 };
+enum { KEPT_MAX = RB_BATCH_MAX + 1, SHOWN_MAX = 100 };
 
 static const char usage[] = "usage: batches FILE...    (FILE - is standard input; a manifest stands for its files)\n"
                             "status: 0 any order, 1 some order must be kept, 2 unreadable, 3 no set, 4 output lost\n";
@@ -41,7 +41,7 @@ struct gathering {
     size_t length;                 /* of the octets */
     uint8_t before[RB_BLOCK_SIZE]; /* the block before the first of them */
     uint8_t after[RB_BLOCK_SIZE];  /* and after the last */
-    uint8_t octets[KEPT_MAX * (FRAME_HEAD + OCTETS_MAX)];
+    uint8_t octets[KEPT_MAX * (RB_FRAME_HEAD + OCTETS_MAX)];
 };
 
 static struct gathering gathering;
@@ -69,7 +69,7 @@ static void print_refused(const struct gathering *batch, rb_batch is)
         return;
     }
     size_t start = batch->starts[is.message - 1];
-    size_t end = is.message < batch->count ? batch->starts[is.message] - FRAME_HEAD : batch->length;
+    size_t end = is.message < batch->count ? batch->starts[is.message] - RB_FRAME_HEAD : batch->length;
 
     printf("line %zu cannot be read: refused %u (%s) at %u    # ", batch->lines[is.message - 1].number, (unsigned)is.number, name, (unsigned)is.offset);
     broken_print(stdout, batch->octets + start, end - start, is.offset);
@@ -111,14 +111,14 @@ static void check_batch(struct gathering *batch)
 
 static void keep(struct gathering *batch, const struct octets *request)
 {
-    const uint8_t head[FRAME_HEAD] = {0x7F, 0, 2, (uint8_t)(request->count >> 8), (uint8_t)request->count};
+    const uint8_t head[RB_FRAME_HEAD] = {0x7F, 0, 2, (uint8_t)(request->count >> 8), (uint8_t)request->count};
 
     if (batch->count < KEPT_MAX) {
         batch->lines[batch->count] = batch->player.line;
-        batch->starts[batch->count] = batch->length + FRAME_HEAD;
-        memcpy(batch->octets + batch->length, head, FRAME_HEAD);
-        memcpy(batch->octets + batch->length + FRAME_HEAD, request->at, request->count);
-        batch->length += FRAME_HEAD + request->count;
+        batch->starts[batch->count] = batch->length + RB_FRAME_HEAD;
+        memcpy(batch->octets + batch->length, head, RB_FRAME_HEAD);
+        memcpy(batch->octets + batch->length + RB_FRAME_HEAD, request->at, request->count);
+        batch->length += RB_FRAME_HEAD + request->count;
     }
     batch->count++;
 }

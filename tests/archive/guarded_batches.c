@@ -3,7 +3,7 @@
 #include "random.h"
 #include "space.h"
 
-enum { PLAYS = 2500, FRAME_HEAD = 5, BLOCK_SPACE = 40960, BATCH_SPACE = 655360, NUMBERS = 24 };
+enum { PLAYS = 2500, BLOCK_SPACE = 40960, BATCH_SPACE = 655360, NUMBERS = 24 };
 
 static struct guarded block, batch;
 static unsigned calls, accepted, pairs, short_of_room, numbers[NUMBERS];
@@ -14,7 +14,7 @@ static size_t length;
 
 static void add_frame(const struct octets *message)
 {
-    const uint8_t head[FRAME_HEAD] = {0x7F, 0, 2, (uint8_t)(message->count >> 8), (uint8_t)message->count};
+    const uint8_t head[RB_FRAME_HEAD] = {0x7F, 0, 2, (uint8_t)(message->count >> 8), (uint8_t)message->count};
 
     memcpy(octets + length, head, sizeof head);
     memcpy(octets + length + sizeof head, message->at, message->count);
@@ -50,7 +50,7 @@ static void hurt_batch(void)
     if (chance(8) == 0) {
         octets[length++] = 0x7F;
     }
-    if (chance(12) == 0 && length > FRAME_HEAD) {
+    if (chance(12) == 0 && length > RB_FRAME_HEAD) {
         octets[3] = (uint8_t)chance(256);
     }
 }
