@@ -31,6 +31,7 @@ extern "C" {
 #define RB_CASES_MAX    65535u /* cases of a run */
 #define RB_CONSOLE_SIZE 1477u  /* a saved state of the serial console */
 #define RB_ENTRY_SIZE   20u    /* an entry of the list that a comparison of two walks writes */
+#define RB_FRAME_HEAD   5u     /* what stands before a message in its frame */
 #define RB_BATCH_MAX    64u    /* messages of a batch */
 
 /* Numbered returns. A refusal keeps every octet that is lent, and every other result is 0, but for the offset of 4 to 8. With 21 and 22 the room is kept too; a
