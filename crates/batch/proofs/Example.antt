@@ -40,9 +40,9 @@ use Rattle.console.specs.Batch.{mostFrames, led, framesOf}
 use Rattle.batch.specs.Names.{groupsOf, among, common, keysAt, allNamed}
 use Rattle.batch.specs.declared.RbBatch.{RbBatch}
 use Rattle.batch.specs.Check.{accepted, refusedWith, offending, shortOf, readSet, eachRead, firstWith, firstPair, isShort, framesJudged, checkBatch}
-use Rattle.batch.specs.Theorems.{Accepted}
+use Rattle.batch.specs.Theorems.{framed, Accepted}
 use Rattle.batch.specs.Order.{Turn, Plays, SameInAll}
-use Rattle.batch.specs.Example.{framed, three, maxAge, helloTime, tenAgain, Batches}
+use Rattle.batch.specs.Example.{three, maxAge, helloTime, tenAgain, Batches}
 use Rattle.batch.proofs.CheckLaws.{accepts-exactly}
 use Rattle.batch.proofs.AcceptLaws.{any-order}
 

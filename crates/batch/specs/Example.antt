@@ -6,16 +6,11 @@ use lib.ListN.{replicate}
 use Rattle.block.specs.Fresh.{fresh}
 use Rattle.block.specs.Image.{image}
 use Rattle.answer.specs.Cases.{fourPorts, asked, egress, rowStatus, staticStatus, priority, getOf, setOf}
-use Rattle.console.specs.Frames.{frame}
 use Rattle.console.specs.Batch.{mostFrames}
 use Rattle.batch.specs.declared.RbBatch.{RbBatch}
 use Rattle.batch.specs.Order.{Turn, Plays, SameInAll}
 use Rattle.batch.specs.Check.{accepted, offending, refusedWith, checkBatch}
-
--- messages in their frames, one behind the other
-abbrev pub framed : List (List ℕ) → List ℕ
-framed [] = []
-framed (m ∷ ms) = frame m ++ framed ms
+use Rattle.batch.specs.Theorems.{framed}
 
 -- VLAN 10 is made, with Egress; a static row is made; StpPriority is set
 abbrev pub three : List (List ℕ)
