@@ -235,11 +235,11 @@ fn removed_and_written(random: &mut Random, bridge: &Bridge) -> Vec<Binding> {
     ]
 }
 
-/// Egress and Forbidden of one row, one or both of them written, and any status.
+/// Egress and Forbidden of one row, one or both of them written, Untagged, which is not judged, and any status.
 fn at_odds(random: &mut Random, bridge: &Bridge) -> Vec<Binding> {
     let index = possible_index(random, bridge, Shape::Vlan);
     let mut group = Vec::new();
-    for column in [Object::VlanEgress, Object::VlanForbidden] {
+    for column in [Object::VlanEgress, Object::VlanForbidden, Object::VlanUntagged] {
         if random.chance(60) {
             group.push(bind(column, &index, right(random, bridge, type_of(column))));
         }
