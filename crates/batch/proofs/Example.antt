@@ -12,6 +12,7 @@ use Rattle.names.specs.SubIds.{subids, nameOctets}
 use Rattle.names.specs.Order.{below, isPrefix}
 use Rattle.names.specs.Index.{within, weight, digits, number, keyIn, upFrom}
 use Rattle.names.specs.Table.{objects, placeUnder, placeOf}
+use Rattle.names.specs.Groups.{tableFrom, tableOf}
 use Rattle.octets.specs.Ports.{portsTo, onlyTo, disjoint, setOf as portSetOf, portOctets}
 use Rattle.block.specs.Content.{Content, withStatics}
 use Rattle.block.specs.Cells.{cellsIn}
@@ -29,7 +30,7 @@ use Rattle.message.specs.Answer.{headOctets, bindingOctets, bindingsOctets, mes
 use Rattle.answer.specs.Values.{values}
 use Rattle.answer.specs.Get.{elem, get}
 use Rattle.answer.specs.Writes.{those, ordered, has, count, full, play, playRow}
-use Rattle.answer.specs.Judge.{Asked, reading, tableFrom, tableOf, alone, among as namedBefore, judgedFrom, groupOf}
+use Rattle.answer.specs.Judge.{Asked, reading, alone, among as namedBefore, judgedFrom, groupOf}
 use Rattle.answer.specs.Set.{gather, rowFault, firstFault, verdict, setCells, apply, after}
 use Rattle.answer.specs.Cases.{fourPorts, under, ofVlan, ofStatic, egress, rowStatus, staticStatus, priority, getOf, setOf}
 use Rattle.answer.proofs.EchoTheorem.{octets-every}

@@ -10,7 +10,7 @@ use borrow.Author.Tests.{eqb-true, eq-eqb}
 use Rattle.block.specs.declared.model.Model.{Model}
 use Rattle.answer.specs.Get.{elem}
 use Rattle.answer.specs.Tables.{Table, vlan, static, firstColumn}
-use Rattle.answer.specs.Judge.{Asked, Judged, targetOf, groupOf, judged}
+use Rattle.answer.specs.Judge.{Asked, Judged, groupNamed, groupOf, judged}
 use Rattle.answer.specs.Terms.{onto, indices, Separate, namedIn, askedOf, namedBy}
 use Rattle.answer.proofs.RoomLaws.{by-bool, by-eq, or-right}
 use Rattle.answer.proofs.JudgeLaws.{judged-groups}
@@ -70,7 +70,7 @@ common-gives (x ∷ gs) hs e =
     record { group = t .group; left = or-right (sameGroup (some (t .group)) x) (among (some (t .group)) gs) (t .left); right = t .right })
 
 -- what a message names, by the bindings that are judged
-pub groups-judged : (d : Model) (m : List ℕ) → groupsOf (d .ports) m ≡ map targetOf (namedBy d m)
+pub groups-judged : (d : Model) (m : List ℕ) → groupsOf (d .ports) m ≡ map groupNamed (namedBy d m)
 unfolding groupsOf
 groups-judged d m = sym (judged-groups d [] (askedOf m))
 
@@ -89,11 +89,11 @@ named-here t k (some r) ks gs h e =
     (λ q. or-right (sameGroup (some (t, k)) (some r)) (among (some (t, k)) gs) (h q)))
     (λ p. or-right (sameGroup (some (t, k)) (some r)) (among (some (t, k)) gs) (h (rw p at e)))
 
-indices-among : (t k : ℕ) (m : List Judged) → elem k (indices t m) ≡ true → among (some (t, k)) (map targetOf m) ≡ true
+indices-among : (t k : ℕ) (m : List Judged) → elem k (indices t m) ≡ true → among (some (t, k)) (map groupNamed m) ≡ true
 unfolding indices elem
 indices-among t k [] e = absurd (false≢true e)
 indices-among t k (b ∷ m) e =
-    named-here t k (targetOf b) (indices t m) (map targetOf m) (indices-among t k m) e
+    named-here t k (groupNamed b) (indices t m) (map groupNamed m) (indices-among t k m) e
 
 -- two messages that name nothing in common are separate, in demand 3's terms
 pub separate-of : (d : Model) (a b : List ℕ) → common (groupsOf (d .ports) a) (groupsOf (d .ports) b) ≡ false → Separate (namedBy d a) (namedBy d b)
@@ -107,10 +107,10 @@ separate-of d a b e t j p =
     ∙ e)))
     (λ q. q)
 
-keys-targets : (t : ℕ) (m : List Judged) → keysAt t (map targetOf m) ≡ indices t m
+keys-targets : (t : ℕ) (m : List Judged) → keysAt t (map groupNamed m) ≡ indices t m
 unfolding keysAt indices
 keys-targets t [] = refl
-keys-targets t (b ∷ m) = ap (onto t (targetOf b)) (keys-targets t m)
+keys-targets t (b ∷ m) = ap (onto t (groupNamed b)) (keys-targets t m)
 
 pub keys-named : (d : Model) (t : Table) (m : List ℕ) → keysAt (firstColumn t) (groupsOf (d .ports) m) ≡ namedIn t (namedBy d m)
 keys-named d t m = ap (keysAt (firstColumn t)) (groups-judged d m) ∙ keys-targets (firstColumn t) (namedBy d m)

@@ -13,6 +13,7 @@ use borrow.Author.Tests.{eq-eqb, ne-eqb, eqb-true, ltb-true, le-leb, lt-leb}
 use Rattle.octets.specs.Parts.{part, same}
 use Rattle.names.specs.SubIds.{subids}
 use Rattle.names.specs.Table.{objects, placeOf}
+use Rattle.names.specs.Groups.{tableFrom, tableOf}
 use Rattle.message.specs.declared.form.Refusal.{Refusal}
 use Rattle.message.specs.declared.request.Head.{Head}
 use Rattle.message.specs.declared.request.Binding.{Binding}
@@ -20,7 +21,7 @@ use Rattle.message.specs.declared.request.Step.{Step}
 use Rattle.message.specs.Request.{requests, headOf, bindingAt, seventeenth, Bindings, ended, all, prepend, bindingsFrom, Reading, refused, message, readMessage, readRequest}
 use Rattle.message.proofs.FormLaws.{clash}
 use Rattle.message.proofs.BindingLaws.{Placed, StepTells, binding-tells}
-use Rattle.answer.specs.Judge.{Asked, tableFrom, tableOf, placed, grouped, groupOf}
+use Rattle.answer.specs.Judge.{Asked, placed, grouped, groupOf}
 use Rattle.answer.specs.Terms.{askedIn, isSet}
 use Rattle.answer.specs.Respond.{askedAt}
 use Rattle.answer.proofs.RoomLaws.{by-bool}

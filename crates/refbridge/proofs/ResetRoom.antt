@@ -10,6 +10,7 @@ use Rattle.octets.specs.Ports.{portsTo, onlyTo, disjoint, setOf, portOctets}
 use Rattle.names.specs.Index.{within, weight, digits, number, keyIn}
 use Rattle.names.specs.Order.{isPrefix}
 use Rattle.names.specs.Table.{objects, placeUnder, placeOf}
+use Rattle.names.specs.Groups.{tableFrom, tableOf}
 use Rattle.block.specs.Cells.{cellsIn}
 use Rattle.block.specs.Content.{Content, withStatics}
 use Rattle.block.specs.Fresh.{times, freshColumn, freshColumns, freshVlan, fresh}
@@ -18,7 +19,7 @@ use Rattle.block.specs.Lookup.{lookup}
 use Rattle.block.specs.Alter.{alter}
 use Rattle.block.specs.declared.rows.StaticRow.{StaticRow}
 use Rattle.answer.specs.Writes.{those, ordered, has, count, full, play, playRow}
-use Rattle.answer.specs.Judge.{reading, tableFrom, tableOf, alone, among, judgedFrom}
+use Rattle.answer.specs.Judge.{reading, alone, among, judgedFrom}
 use Rattle.answer.specs.Set.{gather, rowFault, firstFault, verdict, setCells, apply, after}
 use Rattle.answer.specs.Cases.{fourPorts, staticStatus}
 use Rattle.answer.proofs.Cases.{says, leaves, accepted, fault}

@@ -1,0 +1,87 @@
+-- What a name leads to, as the code finds it, and what a target says of its name. Assumes nothing.
+use mathlib.Core.Path.{_≡_, refl, sym, ap, subst, _∙_}
+use mathlib.Core.Bool.{true}
+use mathlib.Core.Option.{Option, none, some}
+use mathlib.Core.List.{List, _++_}
+use Prim.Native.Nat.{ℕ, _+_, _-_, _*_, _≤_, _<_}
+use native.Mathlib.Omega.{arith}
+use lib.ListN.{length, take, drop, length-append}
+use lib.Seq.{drop-at}
+use Rattle.names.specs.SubIds.{subids}
+use Rattle.names.specs.Index.{canHave, index, keyIn, answered}
+use Rattle.names.specs.Table.{objectCount, objectAt, typeName, placeOf}
+use Rattle.names.specs.Instances.{instanceName}
+use Rattle.names.specs.Targets.{restOf, targetAt, targetUnder, targetIn}
+use Rattle.names.specs.declared.Shape.{Shape}
+use Rattle.names.specs.declared.Key.{Key}
+use Rattle.names.specs.declared.Key.the-variants.{At as KeyAt, Nothing}
+use Rattle.names.specs.declared.table.ObjectType.{ObjectType}
+use Rattle.names.specs.declared.targets.Target.{Target}
+use Rattle.names.specs.declared.targets.Target.the-variants.{Unknown, NoIndex, At}
+use Rattle.names.proofs.SubIdLaws.{subids-count, subids-drop}
+use Rattle.names.proofs.OrderLaws.{prefix-append}
+use Rattle.names.proofs.IndexLaws.{keyIn-index, keyIn-back}
+use Rattle.names.proofs.SideLaws.{rest-is}
+use Rattle.names.proofs.TableLaws.{length-typeName, place-is, place-only, place-rest}
+
+-- the key that an answer tells, if any
+abbrev toldKey : Key → Option ℕ
+toldKey (KeyAt k) = some k
+toldKey Nothing = none
+
+told-answered : (x : Option ℕ) → toldKey (answered x) ≡ x
+told-answered none = refl
+told-answered (some k) = refl
+
+-- what the key that the code finds in the octets s of a name says, where o is the object type at place i
+pub target-found : (n i : ℕ) (s : List ℕ) {o : ObjectType} {r : Key} → o ≡ objectAt i
+    → r ≡ answered (keyIn n (o .shape) (subids (take (length s - 4 * (7 + o .len)) (drop (4 * (7 + o .len)) s))))
+    → targetAt i (toldKey r) ≡ targetAt i (keyIn n (objectAt i .shape) (restOf i (subids s)))
+target-found n i s {o} {r} f g =
+    ap (λ (x : Key). targetAt i (toldKey x)) g
+    ∙ ap (targetAt i) (told-answered (keyIn n (o .shape) (subids (take (length s - 4 * (7 + o .len)) (drop (4 * (7 + o .len)) s)))))
+    ∙ ap (λ l. targetAt i (keyIn n (o .shape) l)) (ap subids (rest-is s (4 * (7 + o .len))) ∙ subids-drop (7 + o .len) s)
+    ∙ (λ j. targetAt i (keyIn n (f j .shape) (drop (7 + f j .len) (subids s))))
+
+-- a name in octets has at least those of the object type that is found for it
+pub place-fits : (s : List ℕ) (i : ℕ) → placeOf (subids s) ≡ some i → 4 * (7 + objectAt i .len) ≤ length s
+place-fits s i e =
+    let l = simp length-append at (ap length (place-rest (subids s) i e)) in
+    omega (arith, l, length-typeName i, subids-count s)
+
+-- what a target says of the name that leads to it
+abbrev pub Tells : ℕ → List ℕ → Target → Type 0
+Tells n name Unknown = Unit
+Tells n name (NoIndex i) = i < objectCount
+Tells n name (At i k) =
+    (i < objectCount) × (name ≡ instanceName (objectAt i) k) × (canHave n (objectAt i .shape) (index (objectAt i .shape) k) ≡ true)
+
+tells : (n : ℕ) (name : List ℕ) → n ≤ 64 → Tells n name (targetIn n name)
+tells n name few = go (placeOf name) refl
+  where
+    by-key : (i : ℕ) → placeOf name ≡ some i → (x : Option ℕ) → keyIn n (objectAt i .shape) (restOf i name) ≡ x → Tells n name (targetAt i x)
+    by-key i e none q = place-is name i e .0
+    by-key i e (some k) q =
+        let r = keyIn-back n (objectAt i .shape) (restOf i name) k few q in (
+          place-is name i e .0,
+          place-rest name i e ∙ ap (λ (l : List ℕ). typeName (objectAt i) ++ l) (r .0),
+          subst (λ (l : List ℕ). canHave n (objectAt i .shape) l ≡ true) (r .0) (r .2),
+        )
+
+    go : (p : Option ℕ) → placeOf name ≡ p → Tells n name (targetUnder n name p)
+    go none e = tt
+    go (some i) e = by-key i e (keyIn n (objectAt i .shape) (restOf i name)) refl
+
+-- a place of the object table; and where it has a key, the name is that of the instance, which the bridge can have
+pub target-tells : (n : ℕ) (name : List ℕ) → n ≤ 64 → {t : Target} → t ≡ targetIn n name → Tells n name t
+target-tells n name few e = subst (Tells n name) (sym e) (tells n name few)
+
+-- the name of an instance that the bridge can have leads to it
+pub target-instance : (n i k : ℕ) → i < objectCount → canHave n (objectAt i .shape) (index (objectAt i .shape) k) ≡ true
+    → targetIn n (instanceName (objectAt i) k) ≡ At i k
+target-instance n i k l can =
+    let s : Shape = objectAt i .shape in
+    let x : List ℕ = instanceName (objectAt i) k in
+    let rest : restOf i x ≡ index s k = drop-at (typeName (objectAt i)) (index s k) (7 + objectAt i .len) (length-typeName i) in
+    ap (targetUnder n x) (place-only x i l (prefix-append (typeName (objectAt i)) (index s k)))
+    ∙ ap (λ (l : List ℕ). targetAt i (keyIn n s l)) rest ∙ ap (targetAt i) (keyIn-index n s k can)
