@@ -9,7 +9,8 @@ use Rattle.block.specs.Content.{Content, withStatics}
 use Rattle.block.specs.Image.{image, contentOf}
 use Rattle.block.specs.declared.rows.StaticRow.{StaticRow}
 use Rattle.block.proofs.ImageLaws.{length-image}
-use Rattle.block.proofs.RoundLaws.{Storable, valid-storable, legal-valid}
+use Rattle.block.specs.Stored.{Storable}
+use Rattle.block.proofs.RoundLaws.{valid-storable, legal-valid}
 use Rattle.reset.specs.Reset.{stay}
 use Rattle.reset.specs.Closing.{closing, Held, moved, nextPlace}
 use Rattle.reset.proofs.ResetLaws.{turned, turned-first, none-written, take-all, turned-storable, stored-held, held-sized, written-short, length-closing, turn}
