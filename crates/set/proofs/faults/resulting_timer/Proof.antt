@@ -38,6 +38,9 @@ mul-q c = omega arith
 array-copy-out-q : tie.Need-array-copy-out-q Inv-loop μ-loop
 array-copy-out-q c = omega arith
 
+cast-if1 : tie.Need-cast-if1 Inv-loop μ-loop
+cast-if1 c = search needs
+
 cast-value : tie.Need-cast-value Inv-loop μ-loop
 cast-value c =
     let l = c .before .before .before .before .before .before .loop in
@@ -83,6 +86,7 @@ resulting-timer-spec =
     loop-holds
     mul-q
     array-copy-out-q
+    cast-if1
     cast-value
     add-i
     loop-less
