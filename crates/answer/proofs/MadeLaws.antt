@@ -12,7 +12,7 @@ use Rattle.names.specs.Index.{canHave, index}
 use Rattle.names.specs.Table.{objectAt}
 use Rattle.names.specs.Instances.{instanceName}
 use Rattle.names.specs.declared.Shape.the-variants.{Vlan, Static}
-use Rattle.names.proofs.InstanceLaws.{All}
+use Rattle.names.specs.Ascending.{All}
 use Rattle.block.specs.Content.{Content, modelOf}
 use Rattle.block.specs.Lookup.{lookup}
 use Rattle.block.specs.Valid.{valid, vlanOk, staticOk}
@@ -21,7 +21,10 @@ use Rattle.block.proofs.KeepLaws.{rowsOk-lookup}
 use Rattle.answer.specs.Values.{Value}
 use Rattle.answer.specs.Get.{get}
 use Rattle.answer.specs.Writes.{field, isStatus, present, ordered, playRow}
-use Rattle.answer.specs.Tables.{Table, vlan, static, create, state, destroy, name, egress, forbidden, untagged, keep, drop, allowed, Row, Status, Field, ColumnOf, rowsOf, shapeOf, columnPlace, madeVlan, statusStep, fieldStep, step}
+use Rattle.block.specs.Tables.{Row, rowsOf}
+use Rattle.block.specs.declared.tables.Table.{Table}
+use Rattle.block.specs.declared.tables.Table.the-variants.{Vlan as vlan, Static as static}
+use Rattle.answer.specs.Tables.{create, state, destroy, name, egress, forbidden, untagged, keep, drop, allowed, Status, Field, ColumnOf, shapeOf, columnPlace, madeVlan, statusStep, fieldStep, step}
 use Rattle.answer.specs.Judge.{Asked, Judged, judged}
 use Rattle.answer.specs.Set.{writesTo, verdict, apply, after}
 use Rattle.answer.specs.Theorems.{startOf, columnName}

@@ -23,7 +23,7 @@ use Rattle.block.proofs.ValidParts.{valid-parts}
 use Rattle.block.proofs.RoundLaws.{legal-valid}
 use Rattle.block.proofs.KeepLaws.{cells-in}
 use Rattle.block.proofs.TimerLaws.{by-timer, timer-has}
-use Rattle.names.proofs.InstanceLaws.{All}
+use Rattle.names.specs.Ascending.{All}
 use Rattle.answer.specs.Values.{Value, integer, values}
 use Rattle.answer.specs.Get.{elem, get}
 use Rattle.answer.specs.Judge.{Asked, judged}

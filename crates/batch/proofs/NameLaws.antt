@@ -9,8 +9,10 @@ use lib.Dec.{eqb}
 use borrow.Author.Tests.{eqb-true, eq-eqb}
 use Rattle.block.specs.declared.model.Model.{Model}
 use Rattle.answer.specs.Get.{elem}
-use Rattle.answer.specs.Tables.{Table, vlan, static, firstColumn}
+use Rattle.answer.specs.Tables.{firstColumn}
 use Rattle.answer.specs.Judge.{Asked, Judged, groupNamed, groupOf, judged}
+use Rattle.block.specs.declared.tables.Table.{Table}
+use Rattle.block.specs.declared.tables.Table.the-variants.{Vlan as vlan, Static as static}
 use Rattle.answer.specs.Terms.{onto, indices, Separate, namedIn, askedOf, namedBy}
 use Rattle.answer.proofs.RoomLaws.{by-bool, by-eq, or-right}
 use Rattle.answer.proofs.JudgeLaws.{judged-groups}

@@ -15,7 +15,10 @@ use Rattle.names.specs.declared.Shape.{Shape}
 use Rattle.block.proofs.RoundLaws.{legal-valid}
 use Rattle.answer.specs.Get.{elem}
 use Rattle.answer.specs.Writes.{present}
-use Rattle.answer.specs.Tables.{Table, vlan, static, rowsOf, most, firstColumn, shapeOf}
+use Rattle.block.specs.Tables.{rowsOf, most}
+use Rattle.block.specs.declared.tables.Table.{Table}
+use Rattle.block.specs.declared.tables.Table.the-variants.{Vlan as vlan, Static as static}
+use Rattle.answer.specs.Tables.{firstColumn, shapeOf}
 use Rattle.answer.specs.Values.{keysIn}
 use Rattle.answer.proofs.StoredLaws.{elem-present}
 use Rattle.answer.specs.Terms.{onto, absent}

@@ -10,7 +10,8 @@ use Rattle.octets.specs.Parts.{part}
 use Rattle.names.specs.SubIds.{subids}
 use Rattle.message.specs.Request.{refused, readRequest}
 use Rattle.message.specs.declared.request.Binding.{Binding}
-use Rattle.answer.specs.Tables.{Table, vlan, static}
+use Rattle.block.specs.declared.tables.Table.{Table}
+use Rattle.block.specs.declared.tables.Table.the-variants.{Vlan as vlan, Static as static}
 use Rattle.answer.specs.Terms.{absent, isSet}
 use Rattle.answer.specs.Theorems.{Every}
 use Rattle.console.specs.Batch.{mostFrames, framesOf}

@@ -7,15 +7,15 @@ use mathlib.Core.Bool.{Bool, true, false, cond}
 use mathlib.Core.List.{List, [], _∷_, _++_, append-assoc}
 use lib.ListN.{length, take, drop, getD, set, length-append, length-drop}
 use lib.Seq.{drop-cons, take-length, take-append-seam, length-take-le, getD-append-add, getD-drop}
-use Rattle.names.proofs.InstanceLaws.{All, Rising}
+use Rattle.names.specs.Ascending.{All, Rising}
 use Rattle.block.specs.Content.{Content, Shape, withStatics}
 use Rattle.block.specs.Image.{image, contentOf}
 use Rattle.block.specs.Lookup.{Sized, keysOf, noStatic}
 use Rattle.block.specs.declared.rows.StaticRow.{StaticRow}
 use Rattle.block.proofs.ReadLaws.{many-vlans, many-statics}
 use Rattle.block.proofs.ImageLaws.{length-image}
-use Rattle.block.proofs.ValidParts.{StaticFits}
-use Rattle.block.proofs.RoundLaws.{Storable, contentOf-stored}
+use Rattle.block.specs.Stored.{StaticFits, Storable}
+use Rattle.block.proofs.RoundLaws.{contentOf-stored}
 use Rattle.reset.specs.Reset.{goes, stay, afterReset}
 use Rattle.reset.specs.Closing.{closing, Held, rowAt, moved, nextPlace}
 

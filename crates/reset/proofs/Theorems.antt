@@ -10,7 +10,7 @@ use lib.ListN.{length}
 use borrow.Author.Tests.{eqb-true, ne-eqb}
 use Rattle.names.specs.Index.{canHave, index}
 use Rattle.names.specs.declared.Shape.the-variants.{Static}
-use Rattle.names.proofs.InstanceLaws.{All, Rising}
+use Rattle.names.specs.Ascending.{All, Rising}
 use Rattle.block.specs.Content.{Content, withStatics}
 use Rattle.block.specs.Image.{image, contentOf}
 use Rattle.block.specs.Lookup.{keysOf, lookup}

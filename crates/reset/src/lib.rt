@@ -13,9 +13,10 @@ use block::changes::change_static;
 use block::layout::AT_STATIC_COUNT;
 use block::layout::AT_STATICS;
 use block::layout::STATIC_WIDTH;
-use block::reads::static_count;
 use block::reads::static_entry;
-use block::reads::static_key;
+use block::tables::Table;
+use block::tables::row_count;
+use block::tables::row_key;
 use octets::numbers::put_be4;
 use octets::parts::clear;
 
@@ -31,7 +32,7 @@ fn move_row(block: &mut [u8], kept: usize, i: usize) -> usize
     if row.status == DELETE_ON_RESET {
         return kept;
     }
-    let key = static_key(block, i);
+    let key = row_key(block, Table::Static, i);
     change_static(block, kept, key, row);
     kept + 1
 }
@@ -41,7 +42,7 @@ fn close_up(block: &mut [u8]) -> usize
     requires { ⌜ legal (now block) ≡ true ⌝ }
     ensures { λ r. ⌜ (r ≡ length (stay (contentOf (now (block .entry)) .statics))) × (now (block .exit) ≡ image (withStatics (contentOf (now (block .entry))) (closing (contentOf (now (block .entry)) .statics) (contentOf (now (block .entry)) .statics)))) ⌝ }
 {
-    let n = static_count(block);
+    let n = row_count(block, Table::Static);
     let mut kept = 0;
     let mut i = 0;
     while i < n {
@@ -56,7 +57,7 @@ fn cut(block: &mut [u8], kept: usize)
     requires { ⌜ (length (now block) ≡ blockSize) × (length (contentOf (now block) .statics) ≤ mostRows) × (kept ≤ length (contentOf (now block) .statics)) ⌝ }
     ensures { λ _. ⌜ ((c : Content) → Shape c → kept ≤ length (c .statics) → now (block .entry) ≡ image c → now (block .exit) ≡ image (withStatics c (take kept (c .statics)))) ⌝ }
 {
-    let n = static_count(block);
+    let n = row_count(block, Table::Static);
     let from = kept * STATIC_WIDTH;
     clear(block, AT_STATICS + from, n * STATIC_WIDTH - from);
     put_be4(block, AT_STATIC_COUNT, kept as u32);

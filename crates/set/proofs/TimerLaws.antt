@@ -16,7 +16,7 @@ use Rattle.block.specs.Layout.{manyCells}
 use Rattle.block.specs.Content.{Content}
 use Rattle.block.specs.Cells.{cellOf, timerIn}
 use Rattle.block.proofs.TimerLaws.{by-timer, timer-place}
-use Rattle.answer.specs.Tables.{Table}
+use Rattle.block.specs.declared.tables.Table.{Table}
 use Rattle.answer.specs.Judge.{Judged}
 use Rattle.answer.specs.Set.{cellWrite, also, gather, setCells, resultingCells}
 use Rattle.answer.proofs.RoomLaws.{by-bool}

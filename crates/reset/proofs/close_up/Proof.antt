@@ -9,7 +9,8 @@ use Rattle.block.specs.Content.{Content, withStatics}
 use Rattle.block.specs.Image.{image, contentOf}
 use Rattle.block.specs.declared.rows.StaticRow.{StaticRow}
 use Rattle.block.proofs.ImageLaws.{length-image}
-use Rattle.block.proofs.RoundLaws.{Storable, valid-storable, legal-valid}
+use Rattle.block.specs.Stored.{Storable}
+use Rattle.block.proofs.RoundLaws.{valid-storable, legal-valid}
 use Rattle.reset.specs.Reset.{stay}
 use Rattle.reset.specs.Closing.{closing, Held, moved, nextPlace}
 use Rattle.reset.proofs.ResetLaws.{turned, turned-first, none-written, take-all, turned-storable, stored-held, held-sized, written-short, length-closing, turn}
@@ -23,8 +24,8 @@ Inv-loop block₀ n kept₀ i₀ block kept i =
 abbrev μ-loop : tie.MeasureT-loop
 μ-loop block₀ n kept₀ i₀ block kept i = n - i
 
-static-count-requires : tie.Need-static-count-requires Inv-loop μ-loop
-static-count-requires c κs = let s = c .before .before in legal-valid (s .args .block .now) (s .pre) .2
+row-count-requires : tie.Need-row-count-requires Inv-loop μ-loop
+row-count-requires c κs = let s = c .before .before in legal-valid (s .args .block .now) (s .pre) .2
 
 loop-holds : tie.Need-loop-holds Inv-loop μ-loop
 loop-holds c =
@@ -58,7 +59,7 @@ move-row-requires c κs =
     let s = c .before .before .before .before .before .before in
     let b = s .args .block .now in
     let stored : Storable (contentOf b) = valid-storable (contentOf b) (legal-valid b (s .pre) .0) in
-    let few : l .i < length (contentOf b .statics) = omega (arith, c .before .loop-test .taken, c .before .before .before .static-count .ensures) in (
+    let few : l .i < length (contentOf b .statics) = omega (arith, c .before .loop-test .taken, c .before .before .before .row-count .ensures) in (
       holds b (l .block) (l .i) stored few (l .inv .3),
       inside b (l .block) (l .i) stored few (l .inv .3),
       omega (arith, l .inv .2, written-short (contentOf b .statics) (l .i) (omega arith)),
@@ -78,7 +79,7 @@ loop-again c =
     let b = s .args .block .now in
     let stored : Storable (contentOf b) = valid-storable (contentOf b) (legal-valid b (s .pre) .0) in
     let few : l .i < length (contentOf b .statics) =
-    omega (arith, c .before .before .before .before .loop-test .taken, c .before .before .before .before .before .before .static-count .ensures) in
+    omega (arith, c .before .before .before .before .loop-test .taken, c .before .before .before .before .before .before .row-count .ensures) in
     let t = after b (l .block) (l .i) stored few (l .inv .3) (l .inv .2) (m .ensures .0) (m .ensures .1) in
     let r : Storable (turned (contentOf b) (l .i + 1)) = turned-storable (contentOf b) (l .i + 1) stored (omega arith) in
     let size : length (image (turned (contentOf b) (l .i + 1))) ≡ blockSize = length-image (turned (contentOf b) (l .i + 1)) (r .shape) in
@@ -92,7 +93,7 @@ returns c =
     let l = c .before .loop in
     let s = c .before .before .before .before .before in
     let b = s .args .block .now in
-    let n = c .before .before .static-count in
+    let n = c .before .before .row-count in
     let e : l .i ≡ length (contentOf b .statics) = omega (arith, n .ensures, c .loop-test .left) in
     let a : take (l .i) (contentOf b .statics) ≡ contentOf b .statics = take-all (contentOf b) (l .i) e in (
       l .inv .2 ∙ ap (λ (r : List (ℕ × StaticRow)). length (stay r)) a,
@@ -105,7 +106,7 @@ close-up-spec =
     (tie.spec
     Inv-loop
     μ-loop
-    static-count-requires
+    row-count-requires
     loop-holds
     move-row-requires
     add-i

@@ -6,8 +6,8 @@ use borrow.Author.Needs.{needs}
 use Rattle.reset.proofs.cut.Statement.{statement}
 use Rattle.reset.proofs.cut.Tie as tie
 
-static-count-requires : tie.Need-static-count-requires
-static-count-requires c κs = search needs
+row-count-requires : tie.Need-row-count-requires
+row-count-requires c κs = search needs
 
 mul-from : tie.Need-mul-from
 mul-from c = search needs
@@ -37,14 +37,14 @@ returns : tie.Need-returns
 returns c k s h e =
     let a = c .before .before .before .before .before .before .before .before .before .before .before .args in
     let d = c .before .before .before .before .before .before in
-    let n : d .before .before .static-count .result ≡ length (k .statics) = d .before .before .static-count .ensures ∙ image-statics s e in
+    let n : d .before .before .row-count .result ≡ length (k .statics) = d .before .before .row-count .ensures ∙ image-statics s e in
     rw (c .before .before .put-be4 .ensures, d .clear .ensures, n, e) (image-static-cut s (a .kept) h)
 
 pub cut-spec : {M : Type 1} → statement M
 cut-spec =
     tie.close
     (tie.spec
-    static-count-requires
+    row-count-requires
     mul-from
     add-clear
     mul-clear

@@ -4,6 +4,8 @@ use mathlib.Core.Bool.{true, false}
 use native.Mathlib.Omega.{arith}
 use borrow.Author.Tests.{eq-eqb, ne-eqb}
 use Rattle.block.specs.Image.{contentOf}
+use Rattle.block.specs.Lookup.{noStatic}
+use Rattle.block.proofs.StandingLaws.{key-at}
 use Rattle.reset.specs.Reset.{deleteOnReset, goes}
 use Rattle.reset.specs.Closing.{rowAt}
 use Rattle.reset.proofs.ResetLaws.{held-sized}
@@ -24,8 +26,8 @@ returns c =
     let g : goes (rowAt (contentOf (s .args .block .now)) (s .args .i) .1) ≡ true = ap goes (sym (e .ensures)) ∙ eq-eqb (e .result .status) deleteOnReset (c .if1 .taken) in
     (rw g, rw g (sym (s .pre .0 .same)))
 
-static-key-requires : tie.Need-static-key-requires
-static-key-requires c κs = let p = c .before .before .before .before .before .before .pre in (held-sized (p .0), p .1)
+row-key-requires : tie.Need-row-key-requires
+row-key-requires c κs = let p = c .before .before .before .before .before .before .pre in (held-sized (p .0), p .1)
 
 change-static-requires : tie.Need-change-static-requires
 change-static-requires c κs =
@@ -41,13 +43,13 @@ same-length-2 c = search needs
 returns-2 : tie.Need-returns-2
 returns-2 c =
     let d = c .before .before in
-    let k = d .before .before .static-key in
+    let k = d .before .before .row-key in
     let e = d .before .before .before .before .before .before .static-entry in
     let s = d .before .before .before .before .before .before .before .before .before in
     let g : goes (rowAt (contentOf (s .args .block .now)) (s .args .i) .1) ≡ false =
     ap goes (sym (e .ensures)) ∙ ne-eqb (e .result .status) deleteOnReset (d .before .before .before .before .if1 .left) in (
       rw g,
-      rw (g, ← k .ensures, ← e .ensures) (d .change-static .ensures (contentOf (s .args .block .now)) (s .pre .0 .shape) (omega (arith, s .pre .1)) (sym (s .pre .0 .same))),
+      rw (g, ← key-at (contentOf (s .args .block .now) .statics) (s .args .i) (noStatic .1), ← k .ensures, ← e .ensures) (d .change-static .ensures (contentOf (s .args .block .now)) (s .pre .0 .shape) (omega (arith, s .pre .1)) (sym (s .pre .0 .same))),
     )
 
 pub move-row-spec : {M : Type 1} → statement M
@@ -57,7 +59,7 @@ move-row-spec =
     static-entry-requires
     same-length
     returns
-    static-key-requires
+    row-key-requires
     change-static-requires
     add-result
     same-length-2

@@ -1,0 +1,43 @@
+-- `block::changes::uncount` meets its contract, table by table. Assumes nothing.
+use native.Mathlib.Omega.{arith}
+use Rattle.block.specs.Tables.{uncounted}
+use borrow.Author.Needs.{needs}
+use Rattle.block.proofs.changes.uncount.Statement.{statement}
+use Rattle.block.proofs.changes.uncount.Tie as tie
+
+enum-told : tie.Need-enum-told
+enum-told c = search needs
+
+vlan-status-requires : tie.Need-vlan-status-requires
+vlan-status-requires c κs =
+    let d = c .before .before .before .before in
+    (d .pre .0, rw (c .before .enum-told .given .1) at (d .pre .1))
+
+exchange-status-requires : tie.Need-exchange-status-requires
+exchange-status-requires c κs = search needs
+
+enum-told-2 : tie.Need-enum-told-2
+enum-told-2 c = search needs
+
+same-length : tie.Need-same-length
+same-length c = search needs
+
+returns : tie.Need-returns
+unfolding uncounted
+returns c = rw (c .before .before .before .before .before .before .enum-told .given .1) cc
+
+returns-2 : tie.Need-returns-2
+unfolding uncounted
+returns-2 c = rw (c .enum-told2 .given .1)
+
+pub uncount-spec : {M : Type 1} → statement M
+uncount-spec =
+    tie.close
+    (tie.spec
+    enum-told
+    vlan-status-requires
+    exchange-status-requires
+    enum-told-2
+    same-length
+    returns
+    returns-2)
