@@ -24,8 +24,7 @@ use Rattle.message.specs.declared.request.Binding.{Binding}
 use Rattle.message.specs.declared.request.Step.{Step}
 use Rattle.message.specs.Form.{fieldAt, tagAllowed, contentLength, lengthRight, refusal, judged, checkedAt}
 use Rattle.message.specs.Request.{checkedThen, statusAllowed, statusOf, idOf, contentPlace, contentIn, bindingTagAt, notBinding, seventeenth, Bindings, ended, all, prepend, stepThen, noBinding, withBindings}
-use Rattle.message.specs.Answer.{Bound, mostOctets}
-use Rattle.message.specs.Theorems.{boundAt}
+use Rattle.message.specs.Answer.{Bound, mostOctets, boundAt}
 use Rattle.message.proofs.FormLaws.{InPlace, told, cond-cases, clash}
 use Rattle.datagram.specs.declared.response.Answers.{Answers}
 use Rattle.datagram.specs.Writing.{lengthForm, headerForm, berOctets, shortened, nameBer, berTag, contentBer, bindingBer, bindingsBer, responseBer, responseFields, responseFront, datagramFields, datagramFront, datagramOctets, nameWritten, responseIn, responseAt, responsesFrom, responseHead, readResponse, answersOf, Writable, Ready, Put, notSent, sent, sentBy, toDatagram}

@@ -15,8 +15,7 @@ use Rattle.message.specs.declared.request.Binding.{Binding}
 use Rattle.message.specs.declared.request.Step.{Step}
 use Rattle.message.specs.Form.{checkedAt, contentLength, refusal}
 use Rattle.message.specs.Request.{checkedThen, idOf, contentIn, seventeenth, Bindings, ended, all, stepThen, Reading, refused, message, withBindings, headThen, noBinding}
-use Rattle.message.specs.Answer.{Bound, mostOctets}
-use Rattle.message.specs.Theorems.{boundAt}
+use Rattle.message.specs.Answer.{Bound, mostOctets, boundAt}
 use Rattle.datagram.specs.Ber.{fewest}
 use Rattle.datagram.specs.declared.response.Answers.{Answers}
 use Rattle.datagram.specs.declared.sending.Written.{Written}

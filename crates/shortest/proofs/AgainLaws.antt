@@ -15,8 +15,7 @@ use Rattle.message.specs.declared.request.Head.{Head}
 use Rattle.message.specs.declared.request.Step.{Step}
 use Rattle.message.specs.Form.{checkedAt, refusal}
 use Rattle.message.specs.Request.{answersToo, kindAllowed, checkedThen, headOf, contentIn, contentPlace, bindingIn, bindingAt, Bindings, ended, all, prepend, stepThen, seventeenth, bindingsFrom, message, withBindings, headThen, readMessage}
-use Rattle.message.specs.Answer.{Bound, headOctets, messageOctets, mostOctets}
-use Rattle.message.specs.Theorems.{boundAt}
+use Rattle.message.specs.Answer.{Bound, headOctets, messageOctets, mostOctets, boundAt}
 use Rattle.message.proofs.FormLaws.{clash, cond-cases}
 use Rattle.datagram.specs.Writing.{nameWritten, responseIn, responseAt, responsesFrom, responseHead, readResponse, datagramOctets, sent, sentBy, toDatagram}
 use Rattle.datagram.proofs.SendLaws.{checked-cases}

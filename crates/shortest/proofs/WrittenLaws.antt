@@ -14,8 +14,7 @@ use Rattle.names.specs.SubIds.{subids}
 use Rattle.message.specs.declared.request.Binding.{Binding}
 use Rattle.message.specs.Request as request
 use Rattle.message.specs.Request.{kindAllowed, statusAllowed}
-use Rattle.message.specs.Answer.{Bound, headOctets, messageOctets, mostOctets}
-use Rattle.message.specs.Theorems.{boundAt}
+use Rattle.message.specs.Answer.{Bound, headOctets, messageOctets, mostOctets, boundAt}
 use Rattle.message.proofs.FormLaws.{cond-cases}
 use Rattle.datagram.specs.Ber.{fewest}
 use Rattle.datagram.specs.Reading.{fromDatagram}
