@@ -22,7 +22,7 @@ use Rattle.message.specs.declared.form.Checked.{Checked}
 use Rattle.message.specs.declared.request.Head.{Head}
 use Rattle.message.specs.declared.request.Binding.{Binding}
 use Rattle.message.specs.declared.request.Step.{Step}
-use Rattle.message.specs.Form.{fieldAt, tagAllowed, contentLength, lengthRight, refusal, judged, checkedAt}
+use Rattle.message.specs.Form.{fieldAt, tagAllowed, contentLength, lengthRight, refusal, judged, checkedAt, atKindField, atKind, atIdField, atStatusField, headSize, mostBindings}
 use Rattle.message.specs.Request.{checkedThen, statusAllowed, statusOf, idOf, contentPlace, contentIn, bindingTagAt, notBinding, seventeenth, Bindings, ended, all, prepend, stepThen, noBinding, withBindings}
 use Rattle.message.specs.Answer.{Bound, mostOctets, boundAt}
 use Rattle.message.proofs.FormLaws.{InPlace, told, cond-cases, clash}
@@ -320,10 +320,10 @@ HeadTells (Head.Found kind id status index) = kind ≡ 2
 head-tells : (s : List ℕ) → HeadTells (responseHead s)
 unfolding responseHead idOf statusOf statusAllowed
 head-tells s =
-    checked-cases HeadTells Kind s 0 (length s) (λ r e. omega arith)
-    (λ tag start len e. cond-cases HeadTells (eqb (getD s 3 0) 2)
-    (λ t. checked-cases HeadTells Id s 4 (length s) (λ r f. omega arith)
-    (λ itag istart ilen f. checked-cases HeadTells Status s 11 (length s) (λ r g. omega arith) (λ stag sstart slen g. refl)))
+    checked-cases HeadTells Kind s atKindField (length s) (λ r e. omega arith)
+    (λ tag start len e. cond-cases HeadTells (eqb (getD s atKind 0) 2)
+    (λ t. checked-cases HeadTells Id s atIdField (length s) (λ r f. omega arith)
+    (λ itag istart ilen f. checked-cases HeadTells Status s atStatusField (length s) (λ r g. omega arith) (λ stag sstart slen g. refl)))
     (λ t. omega arith))
 
 pub head-refused : (s : List ℕ) {h : Head} {r : Refusal} → h ≡ responseHead s → h ≡ Head.Refused r → r .at ≤ 16
@@ -408,11 +408,11 @@ module _ (s : List ℕ) where
   all-at (b ∷ bs) w (suc i) h = all-at bs (w .1) i (omega arith)
 
   -- what the code holds of the bindings
-  module _ {d : Answers} (q : d ≡ answersOf (responsesFrom s 16 16)) where
-    pub answers-refused : d .whole ≡ false → (responsesFrom s 16 16 ≡ ended (d .refusal)) × (d .refusal .at ≤ length s + 16)
-    answers-refused h = go (responsesFrom s 16 16) refl (bindings-tell 16 16) q
+  module _ {d : Answers} (q : d ≡ answersOf (responsesFrom s mostBindings headSize)) where
+    pub answers-refused : d .whole ≡ false → (responsesFrom s mostBindings headSize ≡ ended (d .refusal)) × (d .refusal .at ≤ length s + 16)
+    answers-refused h = go (responsesFrom s mostBindings headSize) refl (bindings-tell 16 16) q
       where
-        go : (x : Bindings) → responsesFrom s 16 16 ≡ x → BindingsTell 16 16 x → d ≡ answersOf x → (responsesFrom s 16 16 ≡ ended (d .refusal)) × (d .refusal .at ≤ length s + 16)
+        go : (x : Bindings) → responsesFrom s mostBindings headSize ≡ x → BindingsTell 16 16 x → d ≡ answersOf x → (responsesFrom s mostBindings headSize ≡ ended (d .refusal)) × (d .refusal .at ≤ length s + 16)
         go (ended r) e w f =
             let z : d .refusal ≡ r = ap (λ (u : Answers). u .refusal) f in
             (e ∙ ap ended (sym z), rw z w)
@@ -420,10 +420,10 @@ module _ (s : List ℕ) where
             let z : d .whole ≡ true = ap (λ (u : Answers). u .whole) f in
             clash (cc)
 
-    pub answers-whole : d .whole ≡ true → (responsesFrom s 16 16 ≡ all (take (d .count) (d .bindings))) × Ready s (d .bindings) (d .count)
-    answers-whole h = go (responsesFrom s 16 16) refl (bindings-tell 16 16) q
+    pub answers-whole : d .whole ≡ true → (responsesFrom s mostBindings headSize ≡ all (take (d .count) (d .bindings))) × Ready s (d .bindings) (d .count)
+    answers-whole h = go (responsesFrom s mostBindings headSize) refl (bindings-tell 16 16) q
       where
-        go : (x : Bindings) → responsesFrom s 16 16 ≡ x → BindingsTell 16 16 x → d ≡ answersOf x → (responsesFrom s 16 16 ≡ all (take (d .count) (d .bindings))) × Ready s (d .bindings) (d .count)
+        go : (x : Bindings) → responsesFrom s mostBindings headSize ≡ x → BindingsTell 16 16 x → d ≡ answersOf x → (responsesFrom s mostBindings headSize ≡ all (take (d .count) (d .bindings))) × Ready s (d .bindings) (d .count)
         go (ended r) e w f =
             let z : d .whole ≡ false = ap (λ (u : Answers). u .whole) f in
             clash (cc)
@@ -449,12 +449,12 @@ module _ (room community s : List ℕ) where
   unfolding toDatagram
   call-long h k = rw (le-ltb (length room) mostOctets h, lt-ltb mostOctets (length s) k)
 
-  pub bindings-refused : (id status index : ℕ) {r : Refusal} → responsesFrom s 16 16 ≡ ended r → notSent (r .number) (r .at) room ≡ sentBy room community s (withBindings 2 id status index (responsesFrom s 16 16))
+  pub bindings-refused : (id status index : ℕ) {r : Refusal} → responsesFrom s mostBindings headSize ≡ ended r → notSent (r .number) (r .at) room ≡ sentBy room community s (withBindings 2 id status index (responsesFrom s mostBindings headSize))
   unfolding sentBy
   bindings-refused id status index e = rw e
 
-  pub bindings-sent : (id status index : ℕ) {bs : List Binding} → responsesFrom s 16 16 ≡ all bs
-      → sent room (datagramOctets community id status index (map (boundAt s) bs)) ≡ sentBy room community s (withBindings 2 id status index (responsesFrom s 16 16))
+  pub bindings-sent : (id status index : ℕ) {bs : List Binding} → responsesFrom s mostBindings headSize ≡ all bs
+      → sent room (datagramOctets community id status index (map (boundAt s) bs)) ≡ sentBy room community s (withBindings 2 id status index (responsesFrom s mostBindings headSize))
   unfolding sentBy
   bindings-sent id status index e = rw e
 
@@ -464,7 +464,7 @@ module _ (room community s : List ℕ) where
     call-refused f = rw (le-ltb (length room) mostOctets h, le-ltb mostOctets (length s) k, ← e, f)
 
     pub call-read : {kind id status index : ℕ} → d ≡ Head.Found kind id status index
-        → sentBy room community s (withBindings 2 id status index (responsesFrom s 16 16)) ≡ toDatagram room community s
+        → sentBy room community s (withBindings 2 id status index (responsesFrom s mostBindings headSize)) ≡ toDatagram room community s
     unfolding toDatagram readResponse
     call-read {kind} {id} {status} {index} f =
         let z : kind ≡ 2 = head-kind s e f in

@@ -13,7 +13,7 @@ use Rattle.message.specs.declared.form.Place.the-variants.{Kind, Bind, Name}
 use Rattle.message.specs.declared.request.Head.{Head}
 use Rattle.message.specs.declared.request.Binding.{Binding}
 use Rattle.message.specs.declared.request.Step.{Step}
-use Rattle.message.specs.Form.{checkedAt, contentLength, refusal}
+use Rattle.message.specs.Form.{checkedAt, contentLength, refusal, atKindField, atKind, headSize, mostBindings}
 use Rattle.message.specs.Request.{checkedThen, idOf, contentIn, seventeenth, Bindings, ended, all, stepThen, Reading, refused, message, withBindings, headThen, noBinding}
 use Rattle.message.specs.Answer.{Bound, mostOctets, boundAt}
 use Rattle.datagram.specs.Ber.{fewest}
@@ -140,10 +140,10 @@ responsesFrom s (suc left) at = cond (leb (length s) at) (all []) (stepThen (res
 -- "7 only for another kind": the status and the index of a response are any
 unfoldable pub responseHead : List ℕ → Head
 responseHead s =
-    checkedThen (checkedAt Kind s 0 (length s)) Head.Refused (λ tag start len. cond (eqb (getD s 3 0) 2) (idOf s 2) (Head.Refused (refusal 7 0)))
+    checkedThen (checkedAt Kind s atKindField (length s)) Head.Refused (λ tag start len. cond (eqb (getD s atKind 0) 2) (idOf s 2) (Head.Refused (refusal 7 atKindField)))
 
 unfoldable pub readResponse : List ℕ → Reading
-readResponse s = headThen (responseHead s) (λ kind id status index. withBindings kind id status index (responsesFrom s 16 16))
+readResponse s = headThen (responseHead s) (λ kind id status index. withBindings kind id status index (responsesFrom s mostBindings headSize))
 
 -- bindings as the code holds them: empty ones after them up to 16
 abbrev pub answersOf : Bindings → Answers

@@ -17,7 +17,7 @@ use Rattle.message.specs.declared.form.Checked.{Checked}
 use Rattle.message.specs.declared.request.Head.{Head}
 use Rattle.message.specs.declared.request.Binding.{Binding}
 use Rattle.message.specs.declared.request.Step.{Step}
-use Rattle.message.specs.Form.{fieldAt, tagAllowed, lengthRight, judged, checkedAt, refusal}
+use Rattle.message.specs.Form.{fieldAt, tagAllowed, lengthRight, judged, checkedAt, refusal, atKindField, atKind, atIdField, atStatusField, atStatus, atIndex, headSize, mostBindings}
 use Rattle.message.specs.Request.{Takes, kindAllowed, statusAllowed, statusOf, idOf, headOf, contentPlace, contentIn, bindingIn, bindingAt, bindingTagAt, seventeenth, notBinding, Bindings, ended, all, prepend, stepThen, bindingsFrom, Reading, refused, message, checkedThen, headThen, withBindings, readMessage}
 use Rattle.message.specs.Theorems.{FieldStart, first, behind, enclosed, Placed, RefusedWhere, BindingsTo, Seventeenth, EightExactly}
 use Rattle.message.proofs.FormLaws.{InPlace, Numbered, told, clash, kind-fits, id-fits, status-fits, cond-cases}
@@ -56,41 +56,41 @@ module _ (s : List ℕ) where
 
   abbrev HeadPlaced : Head → Type 0
   HeadPlaced (Head.Refused r) = Placed s r
-  HeadPlaced (Head.Found kind id status index) = FieldStart s 16
+  HeadPlaced (Head.Found kind id status index) = FieldStart s headSize
 
   -- the three fields before the bindings stand one behind the other
   module _ {tag start len : ℕ} where
-    id-starts : checkedAt Kind s 0 (length s) ≡ Checked.Found tag start len → fieldAt s 0 (length s) ≡ Whole tag start len → FieldStart s 4
+    id-starts : checkedAt Kind s atKindField (length s) ≡ Checked.Found tag start len → fieldAt s 0 (length s) ≡ Whole tag start len → FieldStart s atIdField
     unfolding lengthRight
     id-starts e w =
-        let i : InPlace Kind 0 (length s) tag start len = told s refl e in
-        behind {end = length s} {next = 4} first (omega arith) w (omega (arith, i .starts, eqb-true len 1 (i .right)))
+        let i : InPlace Kind atKindField (length s) tag start len = told s refl e in
+        behind {end = length s} {next = atIdField} first (omega arith) w (omega (arith, i .starts, eqb-true len 1 (i .right)))
 
-    status-starts : FieldStart s 4 → checkedAt Id s 4 (length s) ≡ Checked.Found tag start len → fieldAt s 4 (length s) ≡ Whole tag start len → FieldStart s 11
+    status-starts : FieldStart s atIdField → checkedAt Id s atIdField (length s) ≡ Checked.Found tag start len → fieldAt s atIdField (length s) ≡ Whole tag start len → FieldStart s atStatusField
     unfolding lengthRight
     status-starts f e w =
-        let i : InPlace Id 4 (length s) tag start len = told s refl e in
-        behind {end = length s} {next = 11} f (omega arith) w (omega (arith, i .starts, eqb-true len 4 (i .right)))
+        let i : InPlace Id atIdField (length s) tag start len = told s refl e in
+        behind {end = length s} {next = atStatusField} f (omega arith) w (omega (arith, i .starts, eqb-true len 4 (i .right)))
 
-    bindings-start : FieldStart s 11 → checkedAt Status s 11 (length s) ≡ Checked.Found tag start len → fieldAt s 11 (length s) ≡ Whole tag start len → FieldStart s 16
+    bindings-start : FieldStart s atStatusField → checkedAt Status s atStatusField (length s) ≡ Checked.Found tag start len → fieldAt s atStatusField (length s) ≡ Whole tag start len → FieldStart s headSize
     unfolding lengthRight
     bindings-start f e w =
-        let i : InPlace Status 11 (length s) tag start len = told s refl e in
-        behind {end = length s} {next = 16} f (omega arith) w (omega (arith, i .starts, eqb-true len 2 (i .right)))
+        let i : InPlace Status atStatusField (length s) tag start len = told s refl e in
+        behind {end = length s} {next = headSize} f (omega arith) w (omega (arith, i .starts, eqb-true len 2 (i .right)))
 
   head-placed : (t : Takes) → HeadPlaced (headOf t s)
   unfolding headOf idOf statusOf
   head-placed t =
-      place-cases HeadPlaced Kind s 0 (length s) (starts-at first (omega arith)) (λ tag start len e w.
-      cond-cases HeadPlaced (kindAllowed t (getD s 3 0))
+      place-cases HeadPlaced Kind s atKindField (length s) (starts-at first (omega arith)) (λ tag start len e w.
+      cond-cases HeadPlaced (kindAllowed t (getD s atKind 0))
       (λ _.
-      let i : FieldStart s 4 = id-starts e w in
-      place-cases HeadPlaced Id s 4 (length s) (starts-at i (omega (arith, kind-fits s 0 refl e))) (λ tag start len f v.
-      let j : FieldStart s 11 = status-starts i f v in
-      place-cases HeadPlaced Status s 11 (length s) (starts-at j (omega (arith, id-fits s 4 refl f))) (λ tag start len g u.
-      cond-cases HeadPlaced (statusAllowed (getD s 3 0) (getD s 14 0) (getD s 15 0)) (λ _. bindings-start j g u)
-      (λ _. stands-at j (omega (arith, id-fits s 4 refl f)) (refusal 7 11) refl))))
-      (λ _. stands-at first (omega arith) (refusal 7 0) refl))
+      let i : FieldStart s atIdField = id-starts e w in
+      place-cases HeadPlaced Id s atIdField (length s) (starts-at i (omega (arith, kind-fits s atKindField refl e))) (λ tag start len f v.
+      let j : FieldStart s atStatusField = status-starts i f v in
+      place-cases HeadPlaced Status s atStatusField (length s) (starts-at j (omega (arith, id-fits s atIdField refl f))) (λ tag start len g u.
+      cond-cases HeadPlaced (statusAllowed (getD s atKind 0) (getD s atStatus 0) (getD s atIndex 0)) (λ _. bindings-start j g u)
+      (λ _. stands-at j (omega (arith, id-fits s atIdField refl f)) (refusal 7 atStatusField) refl))))
+      (λ _. stands-at first (omega arith) (refusal 7 atKindField) refl))
 
   module _ (kind : ℕ) where
     abbrev StepPlaced : Step → Type 0
@@ -159,9 +159,9 @@ module _ (s : List ℕ) where
       ends kind id status index (ended r) v = v
       ends kind id status index (all bs) v = tt
 
-      go : (h : Head) → HeadPlaced h → ReadingPlaced (headThen h (λ kind id status index. withBindings kind id status index (bindingsFrom kind s 16 16)))
+      go : (h : Head) → HeadPlaced h → ReadingPlaced (headThen h (λ kind id status index. withBindings kind id status index (bindingsFrom kind s mostBindings headSize)))
       go (Head.Refused r) w = w
-      go (Head.Found kind id status index) w = ends kind id status index (bindingsFrom kind s 16 16) (bindings-placed kind 16 16 w)
+      go (Head.Found kind id status index) w = ends kind id status index (bindingsFrom kind s mostBindings headSize) (bindings-placed kind mostBindings headSize w)
 
 -- the offset of a refusal
 pub refused-where : RefusedWhere
@@ -229,12 +229,12 @@ module _ (t : Takes) (s : List ℕ) where
   head-below : HeadBelow (headOf t s)
   unfolding headOf idOf statusOf
   head-below =
-      place-cases HeadBelow Kind s 0 (length s) (λ r e. e .1) (λ tag start len e w.
-      cond-cases HeadBelow (kindAllowed t (getD s 3 0))
+      place-cases HeadBelow Kind s atKindField (length s) (λ r e. e .1) (λ tag start len e w.
+      cond-cases HeadBelow (kindAllowed t (getD s atKind 0))
       (λ _.
-      place-cases HeadBelow Id s 4 (length s) (λ r e. e .1) (λ tag start len e w.
-      place-cases HeadBelow Status s 11 (length s) (λ r e. e .1) (λ tag start len e w.
-      cond-cases HeadBelow (statusAllowed (getD s 3 0) (getD s 14 0) (getD s 15 0)) (λ _. tt) (λ _. omega arith))))
+      place-cases HeadBelow Id s atIdField (length s) (λ r e. e .1) (λ tag start len e w.
+      place-cases HeadBelow Status s atStatusField (length s) (λ r e. e .1) (λ tag start len e w.
+      cond-cases HeadBelow (statusAllowed (getD s atKind 0) (getD s atStatus 0) (getD s atIndex 0)) (λ _. tt) (λ _. omega arith))))
       (λ _. omega arith))
 
   abbrev ReadingEight : Reading → Type 0
@@ -245,20 +245,20 @@ module _ (t : Takes) (s : List ℕ) where
   unfolding readMessage
   reading-eight = go (headOf t s) refl head-below
     where
-      ends : (kind id status index : ℕ) → headOf t s ≡ Head.Found kind id status index → (x : Bindings) → EndsEight s kind 16 16 x
+      ends : (kind id status index : ℕ) → headOf t s ≡ Head.Found kind id status index → (x : Bindings) → EndsEight s kind mostBindings headSize x
           → ReadingEight (withBindings kind id status index x)
       ends kind id status index q (ended r) v =
           λ e. record { kind = kind; id = id; status = status; index = index; head = q; sixteen = v e .0; fits = v e .1 }
       ends kind id status index q (all bs) v = tt
 
       go : (h : Head) → headOf t s ≡ h → HeadBelow h
-          → ReadingEight (headThen h (λ kind id status index. withBindings kind id status index (bindingsFrom kind s 16 16)))
+          → ReadingEight (headThen h (λ kind id status index. withBindings kind id status index (bindingsFrom kind s mostBindings headSize)))
       go (Head.Refused r) q w = λ e. absurd (omega arith)
-      go (Head.Found kind id status index) q w = ends kind id status index q (bindingsFrom kind s 16 16) (bindings-end s kind 16 16)
+      go (Head.Found kind id status index) q w = ends kind id status index q (bindingsFrom kind s mostBindings headSize) (bindings-end s kind mostBindings headSize)
 
   eight-read : (at : ℕ) → Seventeenth t s at → readMessage t s ≡ refused (refusal 8 at)
   unfolding readMessage
-  eight-read at w = rw (w .head, eight-ends s (w .kind) 16 16 at (w .sixteen) (w .fits))
+  eight-read at w = rw (w .head, eight-ends s (w .kind) mostBindings headSize at (w .sixteen) (w .fits))
 
 pub eight-exactly : EightExactly
 eight-exactly t s at = (λ e. subst (ReadingEight t s) e (reading-eight t s) refl, eight-read t s at)

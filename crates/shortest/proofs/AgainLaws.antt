@@ -13,7 +13,7 @@ use Rattle.message.specs.declared.form.Checked.{Checked}
 use Rattle.message.specs.declared.request.Binding.{Binding}
 use Rattle.message.specs.declared.request.Head.{Head}
 use Rattle.message.specs.declared.request.Step.{Step}
-use Rattle.message.specs.Form.{checkedAt, refusal}
+use Rattle.message.specs.Form.{checkedAt, refusal, atKind, headSize, mostBindings}
 use Rattle.message.specs.Request.{answersToo, kindAllowed, checkedThen, headOf, contentIn, contentPlace, bindingIn, bindingAt, Bindings, ended, all, prepend, stepThen, seventeenth, bindingsFrom, message, withBindings, headThen, readMessage}
 use Rattle.message.specs.Answer.{Bound, headOctets, messageOctets, mostOctets, boundAt}
 use Rattle.message.proofs.FormLaws.{clash, cond-cases}
@@ -93,26 +93,26 @@ module _ (s : List ℕ) where
 
   -- ## The whole
 
-  head-same : getD s 3 0 ≡ 2 → responseHead s ≡ headOf answersToo s
+  head-same : getD s atKind 0 ≡ 2 → responseHead s ≡ headOf answersToo s
   unfolding responseHead headOf kindAllowed
   head-same e = rw e
 
-  response-same : (id status index : ℕ) (rs : List Binding) → getD s 3 0 ≡ 2 → readMessage answersToo s ≡ message 2 id status index rs → AllWritten rs → readResponse s ≡ message 2 id status index rs
+  response-same : (id status index : ℕ) (rs : List Binding) → getD s atKind 0 ≡ 2 → readMessage answersToo s ≡ message 2 id status index rs → AllWritten rs → readResponse s ≡ message 2 id status index rs
   unfolding readMessage readResponse
   response-same id status index rs two e w =
-      ap (λ (h : Head). headThen h (λ kind id status index. withBindings kind id status index (responsesFrom s 16 16))) (head-same two) ∙ go (headOf answersToo s) e
+      ap (λ (h : Head). headThen h (λ kind id status index. withBindings kind id status index (responsesFrom s mostBindings headSize))) (head-same two) ∙ go (headOf answersToo s) e
     where
-      ends : (k i t x : ℕ) (bs : Bindings) → bindingsFrom k s 16 16 ≡ bs → withBindings k i t x bs ≡ message 2 id status index rs → withBindings k i t x (responsesFrom s 16 16) ≡ message 2 id status index rs
+      ends : (k i t x : ℕ) (bs : Bindings) → bindingsFrom k s 16 16 ≡ bs → withBindings k i t x bs ≡ message 2 id status index rs → withBindings k i t x (responsesFrom s mostBindings headSize) ≡ message 2 id status index rs
       ends k i t x (ended r) f q = clash (cc)
       ends k i t x (all ts) f q =
           let a : k ≡ 2 = cc in
           let r : ts ≡ rs = cc in
           let p : bindingsFrom 2 s 16 16 ≡ all rs = ap (λ (j : ℕ). bindingsFrom j s 16 16) (sym a) ∙ f ∙ ap all r in
-          let v : responsesFrom s 16 16 ≡ all rs = subst (Same (responsesFrom s 16 16)) p (bindings-same 16 16) w in
+          let v : responsesFrom s mostBindings headSize ≡ all rs = subst (Same (responsesFrom s mostBindings headSize)) p (bindings-same 16 16) w in
           ap (withBindings k i t x) v ∙ ap (message k i t x) (sym r) ∙ q
 
       go : (h : Head) → headThen h (λ kind id status index. withBindings kind id status index (bindingsFrom kind s 16 16)) ≡ message 2 id status index rs
-          → headThen h (λ kind id status index. withBindings kind id status index (responsesFrom s 16 16)) ≡ message 2 id status index rs
+          → headThen h (λ kind id status index. withBindings kind id status index (responsesFrom s mostBindings headSize)) ≡ message 2 id status index rs
       go (Head.Refused r) q = clash (cc)
       go (Head.Found k i t x) q = ends k i t x (bindingsFrom k s 16 16) refl q
 
@@ -122,9 +122,9 @@ module _ (s : List ℕ) where
       let long : 8 ≤ b .size = omega (arith, w .0 .carried .long, length-take (b .size) (drop (b .name) s)) in
       (sym (written-own s (b .name) (b .size) long) ∙ w .0 .written, all-written bs (w .1))
 
-kind-at : (m : List ℕ) (kind id status index : ℕ) (bs : List Bound) → m ≡ messageOctets kind id status index bs → getD m 3 0 ≡ kind
+kind-at : (m : List ℕ) (kind id status index : ℕ) (bs : List Bound) → m ≡ messageOctets kind id status index bs → getD m atKind 0 ≡ kind
 unfolding messageOctets headOctets beOctets
-kind-at m kind id status index bs e = ap (λ (u : List ℕ). getD u 3 0) e
+kind-at m kind id status index bs e = ap (λ (u : List ℕ). getD u atKind 0) e
 
 -- what writing gives of a response in its parts
 response-written : (room x m : List ℕ) (id status index : ℕ) (bs : List Bound) → Formed true m 2 id status index bs → mostOctets ≤ length room → length m ≤ mostOctets
@@ -140,7 +140,7 @@ response-written room x m id status index bs f long fits =
 pub shortest-is-written : ShortestIsWritten
 shortest-is-written room m x d long two w =
     let c : Canonical true m x d = canonical true m x d (w .taken) in
-    let k : c .kind ≡ 2 = sym (kind-at m (c .kind) (c .id) (c .status) (c .index) (c .bs) (c .formed .is)) ∙ eqb-true (getD m 3 0) 2 two in
+    let k : c .kind ≡ 2 = sym (kind-at m (c .kind) (c .id) (c .status) (c .index) (c .bs) (c .formed .is)) ∙ eqb-true (getD m atKind 0) 2 two in
     written (c .kind) (c .id) (c .status) (c .index) (c .bs) k (c .formed) (c .fits) (shortest-is true m x d w c)
     ∙ rw (le-leb (length d) mostOctets (c .short))
   where

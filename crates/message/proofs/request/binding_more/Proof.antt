@@ -1,6 +1,7 @@
 -- `message::request::binding_more` meets its contract. Assumes nothing.
 use mathlib.Core.Path.{ap, _∙_}
 use borrow.Author.Tests.{le-leb, lt-leb}
+use Rattle.message.specs.Form.{mostBindings}
 use Rattle.message.specs.Walk.{stoppedAt, bindingMore}
 use borrow.Author.Needs.{needs}
 use Rattle.message.proofs.request.binding_more.Statement.{statement}
@@ -23,7 +24,7 @@ stopped-requires-2 c κs = search needs
 
 returns : tie.Need-returns
 unfolding bindingMore
-returns c = rw (c .before .before .before .before .outcome2 .given .1, le-leb 16 _ (c .before .before .if1 .taken)) (c .stopped2 .ensures ∙ ap (stoppedAt (c .before .before .before .before .before .before .before .before .args .s .now)) (c .before .seventeenth-at .ensures))
+returns c = rw (c .before .before .before .before .outcome2 .given .1, le-leb mostBindings _ (c .before .before .if1 .taken)) (c .stopped2 .ensures ∙ ap (stoppedAt (c .before .before .before .before .before .before .before .before .args .s .now)) (c .before .seventeenth-at .ensures))
 
 binding-at-requires : tie.Need-binding-at-requires
 binding-at-requires c κs = search needs
@@ -52,11 +53,11 @@ returns-2 c = rw (c .before .before .outcome .given .1) (c .stopped .ensures)
 
 returns-3 : tie.Need-returns-3
 unfolding bindingMore
-returns-3 c = rw (c .before .before .before .before .before .before .before .outcome2 .given .1, lt-leb 16 _ (c .before .before .before .before .before .if1 .left), ← c .before .before .before .before .binding-at .ensures, c .before .before .r .given .1) (c .stopped3 .ensures)
+returns-3 c = rw (c .before .before .before .before .before .before .before .outcome2 .given .1, lt-leb mostBindings _ (c .before .before .before .before .before .if1 .left), ← c .before .before .before .before .binding-at .ensures, c .before .before .r .given .1) (c .stopped3 .ensures)
 
 returns-4 : tie.Need-returns-4
 unfolding bindingMore
-returns-4 c = rw (c .before .before .before .before .before .before .outcome2 .given .1, lt-leb 16 _ (c .before .before .before .before .if1 .left), ← c .before .before .before .binding-at .ensures, c .before .binding .given .1)
+returns-4 c = rw (c .before .before .before .before .before .before .outcome2 .given .1, lt-leb mostBindings _ (c .before .before .before .before .if1 .left), ← c .before .before .before .binding-at .ensures, c .before .binding .given .1)
 
 pub binding-more-spec : {M : Type 1} → statement M
 binding-more-spec =
