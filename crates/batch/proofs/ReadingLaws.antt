@@ -6,7 +6,7 @@ use mathlib.Core.List.{List, [], _∷_}
 use lib.ListN.{length, getD, take, drop}
 use borrow.Author.Tests.{ne-eqb, eq-eqb}
 use Rattle.message.specs.declared.form.Refusal.{Refusal}
-use Rattle.message.specs.declared.form.Place.the-variants.{Kind}
+use Rattle.message.specs.declared.form.Role.the-variants.{Kind}
 use Rattle.message.specs.declared.form.Checked.{Checked}
 use Rattle.message.specs.declared.request.Binding.{Binding}
 use Rattle.message.specs.Form.{checkedAt, refusal, atKindField, atKind}

@@ -13,7 +13,7 @@ ghost use Rattle.answer.specs.Judge.{tableOf, placed, groupOf};
 ghost use Rattle.batch.specs.Names.{groupsOf, sameGroup, among, common};
 ghost use Rattle.batch.specs.Found.{meant, targets, Few};
 use message::form::HEAD_SIZE;
-use message::request::Step;
+use message::request::BindingRead;
 use message::request::binding_at;
 use names::Key;
 use names::index::key_of;
@@ -127,10 +127,10 @@ pub fn targets_of(ports: u32, m: &[u8]) -> Targets
     let mut at: usize = HEAD_SIZE;
     while at < m.len() {
         match binding_at(SET, m, at) {
-            Step::Refused(_) => {
+            BindingRead::Refused(_) => {
                 return Targets { count, all };
             }
-            Step::Bound { binding, next } => {
+            BindingRead::Bound { binding, next } => {
                 let start = binding.name;
                 let end = start + binding.size;
                 all[count] = target_of(ports, &m[start..end]);

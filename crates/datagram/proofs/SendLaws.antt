@@ -15,15 +15,15 @@ use Rattle.octets.proofs.NumberLaws.{length-beOctets}
 use Rattle.octets.proofs.PartLaws.{patch-none, patch-patch}
 use Rattle.message.specs.declared.form.Field.{Field}
 use Rattle.message.specs.declared.form.Field.the-variants.{Cut, Whole}
-use Rattle.message.specs.declared.form.Place.{Place}
-use Rattle.message.specs.declared.form.Place.the-variants.{Kind, Id, Status, Bind, Name, Answered}
+use Rattle.message.specs.declared.form.Role.{Role}
+use Rattle.message.specs.declared.form.Role.the-variants.{Kind, Id, Status, Bind, Name, Answered}
 use Rattle.message.specs.declared.form.Refusal.{Refusal}
 use Rattle.message.specs.declared.form.Checked.{Checked}
 use Rattle.message.specs.declared.request.Head.{Head}
 use Rattle.message.specs.declared.request.Binding.{Binding}
-use Rattle.message.specs.declared.request.Step.{Step}
+use Rattle.message.specs.declared.request.BindingRead.{BindingRead}
 use Rattle.message.specs.Form.{fieldAt, tagAllowed, contentLength, lengthRight, refusal, judged, checkedAt, atKindField, atKind, atIdField, atStatusField, headSize, mostBindings}
-use Rattle.message.specs.Request.{checkedThen, statusAllowed, statusOf, idOf, contentPlace, contentIn, bindingTagAt, notBinding, seventeenth, Bindings, ended, all, prepend, stepThen, noBinding, withBindings}
+use Rattle.message.specs.Request.{checkedThen, statusAllowed, statusOf, idOf, contentRole, contentIn, bindingTagAt, notBinding, seventeenth, Bindings, ended, all, prepend, bindingThen, noBinding, withBindings}
 use Rattle.message.specs.Answer.{Bound, mostOctets, boundAt}
 use Rattle.message.proofs.FormLaws.{InPlace, told, cond-cases, clash}
 use Rattle.datagram.specs.declared.response.Answers.{Answers}
@@ -275,7 +275,7 @@ abbrev Placed : ℕ → Checked → Type 0
 Placed at (Checked.Refused r) = r .at ≡ at
 Placed at (Checked.Found tag start len) = Unit {0}
 
-placed : (p : Place) (s : List ℕ) (at end : ℕ) → Placed at (checkedAt p s at end)
+placed : (p : Role) (s : List ℕ) (at end : ℕ) → Placed at (checkedAt p s at end)
 unfolding checkedAt judged
 placed p s at end = go (fieldAt s at end)
   where
@@ -283,7 +283,7 @@ placed p s at end = go (fieldAt s at end)
     go Cut = refl
     go (Whole tag start len) = cond-cases (Placed at) (tagAllowed p tag) (λ _. cond-cases (Placed at) (lengthRight p tag len) (λ _. tt) (λ _. refl)) (λ _. refl)
 
-pub checked-cases : {A : Type 0} (P : A → Type 0) (p : Place) (s : List ℕ) (at end : ℕ) {stop : Refusal → A} {go : ℕ → ℕ → ℕ → A}
+pub checked-cases : {A : Type 0} (P : A → Type 0) (p : Role) (s : List ℕ) (at end : ℕ) {stop : Refusal → A} {go : ℕ → ℕ → ℕ → A}
     → ((r : Refusal) → r .at ≡ at → P (stop r)) → ((tag start len : ℕ) → checkedAt p s at end ≡ Checked.Found tag start len → P (go tag start len)) → P (checkedThen (checkedAt p s at end) stop go)
 checked-cases P p s at end {stop} {go} refuses finds = cases (checkedAt p s at end) refl (placed p s at end)
   where
@@ -333,12 +333,12 @@ pub head-kind : (s : List ℕ) {h : Head} {kind id status index : ℕ} → h ≡
 head-kind s e f = subst HeadTells (sym e ∙ f) (head-tells s)
 
 module _ (s : List ℕ) where
-  abbrev StepTells : ℕ → Step → Type 0
-  StepTells at (Step.Refused r) = r .at ≤ length s + 16
-  StepTells at (Step.Bound b next) = Writable s b × (next ≡ at + (9 + b .size + b .len)) × (next ≤ length s)
+  abbrev StepTells : ℕ → BindingRead → Type 0
+  StepTells at (BindingRead.Refused r) = r .at ≤ length s + 16
+  StepTells at (BindingRead.Bound b next) = Writable s b × (next ≡ at + (9 + b .size + b .len)) × (next ≤ length s)
 
   step-tells : (at : ℕ) → at ≤ length s → StepTells at (responseAt s at)
-  unfolding responseAt responseIn contentIn contentPlace lengthRight
+  unfolding responseAt responseIn contentIn contentRole lengthRight
   step-tells at h =
       checked-cases (StepTells at) Bind s at (length s) (λ r e. omega arith)
       (λ tag start len e.
@@ -387,9 +387,9 @@ module _ (s : List ℕ) where
   BindingsTell left at (ended r) = r .at ≤ length s + 16
   BindingsTell left at (all bs) = (length bs ≤ left) × AllWritable bs
 
-  more-tells : (left at : ℕ) (k : Step) (go : ℕ → Bindings) → StepTells at k → ((next : ℕ) → BindingsTell left next (go next)) → BindingsTell (suc left) at (stepThen k go)
-  more-tells left at (Step.Refused r) go w h = w
-  more-tells left at (Step.Bound b next) go w h = prepended (go next) (h next)
+  more-tells : (left at : ℕ) (k : BindingRead) (go : ℕ → Bindings) → StepTells at k → ((next : ℕ) → BindingsTell left next (go next)) → BindingsTell (suc left) at (bindingThen k go)
+  more-tells left at (BindingRead.Refused r) go w h = w
+  more-tells left at (BindingRead.Bound b next) go w h = prepended (go next) (h next)
     where
       prepended : (x : Bindings) → BindingsTell left next x → BindingsTell (suc left) at (prepend b x)
       prepended (ended r) v = v

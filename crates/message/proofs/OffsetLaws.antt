@@ -11,14 +11,14 @@ use Rattle.octets.proofs.PartLaws.{both}
 use Rattle.message.specs.declared.form.Refusal.{Refusal}
 use Rattle.message.specs.declared.form.Field.{Field}
 use Rattle.message.specs.declared.form.Field.the-variants.{Cut, Whole}
-use Rattle.message.specs.declared.form.Place.{Place}
-use Rattle.message.specs.declared.form.Place.the-variants.{Kind, Id, Status, Bind, Name}
+use Rattle.message.specs.declared.form.Role.{Role}
+use Rattle.message.specs.declared.form.Role.the-variants.{Kind, Id, Status, Bind, Name}
 use Rattle.message.specs.declared.form.Checked.{Checked}
 use Rattle.message.specs.declared.request.Head.{Head}
 use Rattle.message.specs.declared.request.Binding.{Binding}
-use Rattle.message.specs.declared.request.Step.{Step}
+use Rattle.message.specs.declared.request.BindingRead.{BindingRead}
 use Rattle.message.specs.Form.{fieldAt, tagAllowed, lengthRight, judged, checkedAt, refusal, atKindField, atKind, atIdField, atStatusField, atStatus, atIndex, headSize, mostBindings}
-use Rattle.message.specs.Request.{Takes, kindAllowed, statusAllowed, statusOf, idOf, headOf, contentPlace, contentIn, bindingIn, bindingAt, bindingTagAt, seventeenth, notBinding, Bindings, ended, all, prepend, stepThen, bindingsFrom, Reading, refused, message, checkedThen, headThen, withBindings, readMessage}
+use Rattle.message.specs.Request.{Takes, kindAllowed, statusAllowed, statusOf, idOf, headOf, contentRole, contentIn, bindingIn, bindingAt, bindingTagAt, seventeenth, notBinding, Bindings, ended, all, prepend, bindingThen, bindingsFrom, Reading, refused, message, checkedThen, headThen, withBindings, readMessage}
 use Rattle.message.specs.Theorems.{FieldStart, first, behind, enclosed, Placed, RefusedWhere, BindingsTo, Seventeenth, EightExactly}
 use Rattle.message.proofs.FormLaws.{InPlace, Numbered, told, clash, kind-fits, id-fits, status-fits, cond-cases}
 
@@ -27,7 +27,7 @@ abbrev StandsAt : List ℕ → (at end : ℕ) → Checked → Type 0
 StandsAt s at end (Checked.Refused r) = (r .at ≡ at) × (r .number < 8)
 StandsAt s at end (Checked.Found tag start len) = fieldAt s at end ≡ Whole tag start len
 
-stands : (p : Place) (s : List ℕ) (at end : ℕ) → StandsAt s at end (checkedAt p s at end)
+stands : (p : Role) (s : List ℕ) (at end : ℕ) → StandsAt s at end (checkedAt p s at end)
 unfolding checkedAt judged
 stands p s at end = go (fieldAt s at end) refl
   where
@@ -36,7 +36,7 @@ stands p s at end = go (fieldAt s at end) refl
     go (Whole tag start len) h =
         cond-cases (StandsAt s at end) (tagAllowed p tag) (λ _. cond-cases (StandsAt s at end) (lengthRight p tag len) (λ _. h) (λ _. (refl, omega arith))) (λ _. (refl, omega arith))
 
-place-cases : {A : Type 0} (P : A → Type 0) (p : Place) (s : List ℕ) (at end : ℕ) {stop : Refusal → A} {go : ℕ → ℕ → ℕ → A}
+place-cases : {A : Type 0} (P : A → Type 0) (p : Role) (s : List ℕ) (at end : ℕ) {stop : Refusal → A} {go : ℕ → ℕ → ℕ → A}
     → ((r : Refusal) → (r .at ≡ at) × (r .number < 8) → P (stop r))
     → ((tag start len : ℕ) → checkedAt p s at end ≡ Checked.Found tag start len → fieldAt s at end ≡ Whole tag start len → P (go tag start len))
     → P (checkedThen (checkedAt p s at end) stop go)
@@ -93,15 +93,15 @@ module _ (s : List ℕ) where
       (λ _. stands-at first (omega arith) (refusal 7 atKindField) refl))
 
   module _ (kind : ℕ) where
-    abbrev StepPlaced : Step → Type 0
-    StepPlaced (Step.Refused r) = Placed s r
-    StepPlaced (Step.Bound b next) = FieldStart s next
+    abbrev StepPlaced : BindingRead → Type 0
+    StepPlaced (BindingRead.Refused r) = Placed s r
+    StepPlaced (BindingRead.Bound b next) = FieldStart s next
 
     content-placed : (end name size : ℕ) → FieldStart s (name + size) → FieldStart s end → name + size ≤ end → end ≤ length s
         → StepPlaced (contentIn kind s end name size)
     unfolding contentIn
     content-placed end name size f n k h =
-        place-cases StepPlaced (contentPlace kind) s (name + size) end (starts-at f (omega arith)) (λ tag start len e w.
+        place-cases StepPlaced (contentRole kind) s (name + size) end (starts-at f (omega arith)) (λ tag start len e w.
         cond-cases StepPlaced (leb end (start + len)) (λ _. n)
         (λ q. stands-at (behind f h w refl) (omega (arith, leb-false end (start + len) q)) (refusal 6 (start + len)) refl))
 
@@ -131,9 +131,9 @@ module _ (s : List ℕ) where
         go Cut = stands-at f h (refusal 4 at) refl
         go (Whole tag start len) = stands-at f h (refusal 5 at) refl
 
-    more-placed : (k : Step) (go : ℕ → Bindings) → StepPlaced k → ((next : ℕ) → FieldStart s next → BindingsPlaced (go next)) → BindingsPlaced (stepThen k go)
-    more-placed (Step.Refused r) go w h = w
-    more-placed (Step.Bound b next) go w h = prepended (go next) (h next w)
+    more-placed : (k : BindingRead) (go : ℕ → Bindings) → StepPlaced k → ((next : ℕ) → FieldStart s next → BindingsPlaced (go next)) → BindingsPlaced (bindingThen k go)
+    more-placed (BindingRead.Refused r) go w h = w
+    more-placed (BindingRead.Bound b next) go w h = prepended (go next) (h next w)
       where
         prepended : (x : Bindings) → BindingsPlaced x → BindingsPlaced (prepend b x)
         prepended (ended r) v = v
@@ -169,16 +169,16 @@ refused-where t s r e = subst (ReadingPlaced s) e (reading-placed s t)
 
 -- Refusal 8: no field's own refusal is 8, so it is the 17th binding's
 module _ (s : List ℕ) (kind : ℕ) where
-  abbrev BelowEight : Step → Type 0
-  BelowEight (Step.Refused r) = r .number < 8
-  BelowEight (Step.Bound b next) = Unit {0}
+  abbrev BelowEight : BindingRead → Type 0
+  BelowEight (BindingRead.Refused r) = r .number < 8
+  BelowEight (BindingRead.Bound b next) = Unit {0}
 
   binding-below : (at : ℕ) → BelowEight (bindingAt kind s at)
   unfolding bindingAt bindingIn contentIn
   binding-below at =
       place-cases BelowEight Bind s at (length s) (λ r e. e .1) (λ tag start len e w.
       place-cases BelowEight Name s start (start + len) (λ r e. e .1) (λ tag2 start2 len2 e w.
-      place-cases BelowEight (contentPlace kind) s (start2 + len2) (start + len) (λ r e. e .1) (λ tag3 start3 len3 e w.
+      place-cases BelowEight (contentRole kind) s (start2 + len2) (start + len) (λ r e. e .1) (λ tag3 start3 len3 e w.
       cond-cases BelowEight (leb (start + len) (start3 + len3)) (λ _. tt) (λ _. omega arith))))
 
   abbrev EndsEight : (left at : ℕ) → Bindings → Type 0
@@ -193,11 +193,11 @@ module _ (s : List ℕ) (kind : ℕ) where
       go Cut = λ e. absurd (omega arith)
       go (Whole tag start len) = λ e. absurd (omega arith)
 
-  more-ends : (left at : ℕ) → at < length s → (k : Step) → bindingAt kind s at ≡ k → BelowEight k
+  more-ends : (left at : ℕ) → at < length s → (k : BindingRead) → bindingAt kind s at ≡ k → BelowEight k
       → ((next : ℕ) → EndsEight left next (bindingsFrom kind s left next))
-      → EndsEight (suc left) at (stepThen k (bindingsFrom kind s left))
-  more-ends left at l (Step.Refused r) q w h = λ e. absurd (omega arith)
-  more-ends left at l (Step.Bound b next) q w h = prepended (bindingsFrom kind s left next) (h next)
+      → EndsEight (suc left) at (bindingThen k (bindingsFrom kind s left))
+  more-ends left at l (BindingRead.Refused r) q w h = λ e. absurd (omega arith)
+  more-ends left at l (BindingRead.Bound b next) q w h = prepended (bindingsFrom kind s left next) (h next)
     where
       prepended : (x : Bindings) → EndsEight left next x → EndsEight (suc left) at (prepend b x)
       prepended (ended r) v = λ e. let u = v e in ((b, next, l, q, u .0), u .1)

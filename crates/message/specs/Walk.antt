@@ -9,7 +9,7 @@ use Rattle.message.specs.Form.{mostBindings, headSize}
 use Rattle.message.specs.declared.form.Refusal.{Refusal}
 use Rattle.message.specs.declared.request.Head.{Head}
 use Rattle.message.specs.declared.request.Binding.{Binding}
-use Rattle.message.specs.declared.request.Step.{Step}
+use Rattle.message.specs.declared.request.BindingRead.{BindingRead}
 use Rattle.message.specs.declared.request.Outcome.{Outcome}
 use Rattle.message.specs.declared.request.Request.{Request}
 use Rattle.message.specs.declared.request.Progress.{Progress}
@@ -25,9 +25,9 @@ begunWith s (Head.Refused r) = stoppedAt s r
 begunWith s (Head.Found kind id status index) = record { outcome = Outcome.Read kind id 0; bindings = replicate mostBindings noBinding; next = headSize }
 
 -- n bindings are read, and the next one
-abbrev pub boundMore : List ℕ → (kind id n : ℕ) → List Binding → Step → Progress
-boundMore s kind id n bs (Step.Refused r) = stoppedAt s r
-boundMore s kind id n bs (Step.Bound b next) = record { outcome = Outcome.Read kind id (n + 1); bindings = set bs n b; next = next }
+abbrev pub boundMore : List ℕ → (kind id n : ℕ) → List Binding → BindingRead → Progress
+boundMore s kind id n bs (BindingRead.Refused r) = stoppedAt s r
+boundMore s kind id n bs (BindingRead.Bound b next) = record { outcome = Outcome.Read kind id (n + 1); bindings = set bs n b; next = next }
 
 abbrev pub outcomeMore : List ℕ → (at : ℕ) → List Binding → Outcome → Progress
 outcomeMore s at bs (Outcome.Refused r) = stoppedAt s r

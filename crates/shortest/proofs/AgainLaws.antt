@@ -8,13 +8,13 @@ use borrow.Author.Tests.{le-leb, le-ltb, eqb-true}
 use lib.Dec.{leb}
 use lib.ListN.{length, getD, drop, length-take}
 use Rattle.octets.specs.Numbers.{beOctets}
-use Rattle.message.specs.declared.form.Place.the-variants.{Bind, Name}
+use Rattle.message.specs.declared.form.Role.the-variants.{Bind, Name}
 use Rattle.message.specs.declared.form.Checked.{Checked}
 use Rattle.message.specs.declared.request.Binding.{Binding}
 use Rattle.message.specs.declared.request.Head.{Head}
-use Rattle.message.specs.declared.request.Step.{Step}
+use Rattle.message.specs.declared.request.BindingRead.{BindingRead}
 use Rattle.message.specs.Form.{checkedAt, refusal, atKind, headSize, mostBindings}
-use Rattle.message.specs.Request.{answersToo, kindAllowed, checkedThen, headOf, contentIn, contentPlace, bindingIn, bindingAt, Bindings, ended, all, prepend, stepThen, seventeenth, bindingsFrom, message, withBindings, headThen, readMessage}
+use Rattle.message.specs.Request.{answersToo, kindAllowed, checkedThen, headOf, contentIn, contentRole, bindingIn, bindingAt, Bindings, ended, all, prepend, bindingThen, seventeenth, bindingsFrom, message, withBindings, headThen, readMessage}
 use Rattle.message.specs.Answer.{Bound, headOctets, messageOctets, mostOctets, boundAt}
 use Rattle.message.proofs.FormLaws.{clash, cond-cases}
 use Rattle.datagram.specs.Writing.{nameWritten, responseIn, responseAt, responsesFrom, responseHead, readResponse, datagramOctets, sent, sentBy, toDatagram}
@@ -27,35 +27,35 @@ use Rattle.shortest.proofs.Theorems.{Formed, formed-reads, Canonical, c
 module _ (s : List ℕ) where
   -- ## One binding
 
-  abbrev Named : ℕ → Step → Type 0
-  Named name (Step.Refused r) = Unit {0}
-  Named name (Step.Bound b next) = b .name ≡ name
+  abbrev Named : ℕ → BindingRead → Type 0
+  Named name (BindingRead.Refused r) = Unit {0}
+  Named name (BindingRead.Bound b next) = b .name ≡ name
 
   content-named : (end name size : ℕ) → Named name (contentIn 2 s end name size)
   unfolding contentIn
   content-named end name size =
-      checked-cases (Named name) (contentPlace 2) s (name + size) end (λ r e. tt) (λ tag start len e. cond-cases (Named name) (leb end (start + len)) (λ t. refl) (λ t. tt))
+      checked-cases (Named name) (contentRole 2) s (name + size) end (λ r e. tt) (λ tag start len e. cond-cases (Named name) (leb end (start + len)) (λ t. refl) (λ t. tt))
 
   -- where the form reads a binding whose name has a counterpart, writing reads the same
-  abbrev StepSame : (wrote reads : Step) → Type 0
-  StepSame wrote (Step.Refused r) = Unit {0}
-  StepSame wrote (Step.Bound b next) = nameWritten s (b .name) ≡ true → wrote ≡ Step.Bound b next
+  abbrev StepSame : (wrote reads : BindingRead) → Type 0
+  StepSame wrote (BindingRead.Refused r) = Unit {0}
+  StepSame wrote (BindingRead.Bound b next) = nameWritten s (b .name) ≡ true → wrote ≡ BindingRead.Bound b next
 
-  judged-same : (name : ℕ) (k stop : Step) → Named name k → StepSame (cond (nameWritten s name) k stop) k
-  judged-same name (Step.Refused r) stop e = tt
-  judged-same name (Step.Bound b next) stop e = λ h. rw (← e, h)
+  judged-same : (name : ℕ) (k stop : BindingRead) → Named name k → StepSame (cond (nameWritten s name) k stop) k
+  judged-same name (BindingRead.Refused r) stop e = tt
+  judged-same name (BindingRead.Bound b next) stop e = λ h. rw (← e, h)
 
   name-same : (end : ℕ) (c : Checked)
-      → StepSame (checkedThen c Step.Refused (λ tag start len. cond (nameWritten s start) (contentIn 2 s end start len) (Step.Refused (refusal 19 0))))
-      (checkedThen c Step.Refused (λ tag start len. contentIn 2 s end start len))
+      → StepSame (checkedThen c BindingRead.Refused (λ tag start len. cond (nameWritten s start) (contentIn 2 s end start len) (BindingRead.Refused (refusal 19 0))))
+      (checkedThen c BindingRead.Refused (λ tag start len. contentIn 2 s end start len))
   name-same end (Checked.Refused r) = tt
-  name-same end (Checked.Found tag start len) = judged-same start (contentIn 2 s end start len) (Step.Refused (refusal 19 0)) (content-named end start len)
+  name-same end (Checked.Found tag start len) = judged-same start (contentIn 2 s end start len) (BindingRead.Refused (refusal 19 0)) (content-named end start len)
 
   step-same : (at : ℕ) → StepSame (responseAt s at) (bindingAt 2 s at)
   unfolding responseAt bindingAt responseIn bindingIn
   step-same at = go (checkedAt Bind s at (length s))
     where
-      go : (c : Checked) → StepSame (checkedThen c Step.Refused (λ tag start len. responseIn s start (start + len))) (checkedThen c Step.Refused (λ tag start len. bindingIn 2 s start (start + len)))
+      go : (c : Checked) → StepSame (checkedThen c BindingRead.Refused (λ tag start len. responseIn s start (start + len))) (checkedThen c BindingRead.Refused (λ tag start len. bindingIn 2 s start (start + len)))
       go (Checked.Refused r) = tt
       go (Checked.Found tag start len) = name-same (start + len) (checkedAt Name s start (start + len))
 
@@ -69,13 +69,13 @@ module _ (s : List ℕ) where
   Same wrote (ended r) = Unit {0}
   Same wrote (all bs) = AllWritten bs → wrote ≡ all bs
 
-  more-same : (wrote reads : Step) (go other : ℕ → Bindings) → StepSame wrote reads → ((next : ℕ) → Same (go next) (other next)) → Same (stepThen wrote go) (stepThen reads other)
-  more-same wrote (Step.Refused r) go other w f = tt
-  more-same wrote (Step.Bound b next) go other w f = prepended (other next) (f next)
+  more-same : (wrote reads : BindingRead) (go other : ℕ → Bindings) → StepSame wrote reads → ((next : ℕ) → Same (go next) (other next)) → Same (bindingThen wrote go) (bindingThen reads other)
+  more-same wrote (BindingRead.Refused r) go other w f = tt
+  more-same wrote (BindingRead.Bound b next) go other w f = prepended (other next) (f next)
     where
-      prepended : (x : Bindings) → Same (go next) x → Same (stepThen wrote go) (prepend b x)
+      prepended : (x : Bindings) → Same (go next) x → Same (bindingThen wrote go) (prepend b x)
       prepended (ended r) v = tt
-      prepended (all bs) v = λ h. ap (λ (k : Step). stepThen k go) (w (h .0)) ∙ ap (prepend b) (v (h .1))
+      prepended (all bs) v = λ h. ap (λ (k : BindingRead). bindingThen k go) (w (h .0)) ∙ ap (prepend b) (v (h .1))
 
   bindings-same : (left at : ℕ) → Same (responsesFrom s left at) (bindingsFrom 2 s left at)
   unfolding responsesFrom bindingsFrom
@@ -86,8 +86,8 @@ module _ (s : List ℕ) where
       go false = tt
   bindings-same (suc left) at = go (leb (length s) at) (more-same (responseAt s at) (bindingAt 2 s at) (responsesFrom s left) (bindingsFrom 2 s left) (step-same at) (bindings-same left))
     where
-      go : (t : Bool) → Same (stepThen (responseAt s at) (responsesFrom s left)) (stepThen (bindingAt 2 s at) (bindingsFrom 2 s left))
-          → Same (cond t (all []) (stepThen (responseAt s at) (responsesFrom s left))) (cond t (all []) (stepThen (bindingAt 2 s at) (bindingsFrom 2 s left)))
+      go : (t : Bool) → Same (bindingThen (responseAt s at) (responsesFrom s left)) (bindingThen (bindingAt 2 s at) (bindingsFrom 2 s left))
+          → Same (cond t (all []) (bindingThen (responseAt s at) (responsesFrom s left))) (cond t (all []) (bindingThen (bindingAt 2 s at) (bindingsFrom 2 s left)))
       go true q = λ h. refl
       go false q = q
 
