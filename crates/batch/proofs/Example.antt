@@ -25,7 +25,7 @@ use Rattle.block.proofs.RoundLaws.{contentOf-image, legal-image}
 use Rattle.block.proofs.FreshLaws.{valid-fresh}
 use Rattle.block.proofs.KeepLaws.{valid-statics}
 use Rattle.message.specs.Form.{fieldAt, tagAllowed, contentLength, lengthRight, judged as fieldJudged, checkedAt}
-use Rattle.message.specs.Request.{kindAllowed, statusAllowed, statusOf, idOf, headOf, contentPlace, contentIn, bindingIn, bindingAt, bindingTagAt, seventeenth, bindingsFrom, readMessage, readRequest}
+use Rattle.message.specs.Request.{kindAllowed, statusAllowed, statusOf, idOf, headOf, contentRole, contentIn, bindingIn, bindingAt, bindingTagAt, seventeenth, bindingsFrom, readMessage, readRequest}
 use Rattle.message.specs.Answer.{headOctets, bindingOctets, bindingsOctets, messageOctets}
 use Rattle.answer.specs.Values.{values}
 use Rattle.answer.specs.Get.{elem, get}
@@ -71,7 +71,7 @@ computed : (a : List ℕ)
     × (framesOf mostFrames (framed three) ≡ (three, 0))
     × (every isOctet (framed three) ≡ true)
 unfolding every beAt beOctets same subids nameOctets below isPrefix within weight number keyIn objects placeUnder placeOf lookup fresh fieldAt tagAllowed contentLength lengthRight fieldJudged checkedAt
-    kindAllowed statusAllowed statusOf idOf headOf contentPlace contentIn bindingIn bindingAt bindingTagAt seventeenth bindingsFrom readMessage headOctets bindingOctets bindingsOctets messageOctets
+    kindAllowed statusAllowed statusOf idOf headOf contentRole contentIn bindingIn bindingAt bindingTagAt seventeenth bindingsFrom readMessage headOctets bindingOctets bindingsOctets messageOctets
     elem tableFrom tableOf groupOf absent frame arrived sized step run led framesOf groupsOf among common keysAt allNamed readSet eachRead firstWith firstPair isShort
 computed a = (refl, refl, refl, refl, refl, refl, refl, refl, refl, refl, refl, refl, refl)
 
@@ -159,7 +159,7 @@ short-computed : (a : List ℕ)
     × (framesJudged (packed a) (framesOf mostFrames (framed (makesStatic ∷ makes300 ∷ []))) ≡ shortOf 1)
     × (framesJudged (packed a) (framesOf mostFrames (framed (makesStatic ∷ makes300 ∷ makesStatic ∷ []))) ≡ offending 1 3)
 unfolding beAt beOctets same subids nameOctets below isPrefix within weight number keyIn objects placeUnder placeOf lookup fresh fieldAt tagAllowed contentLength lengthRight fieldJudged checkedAt
-    kindAllowed statusAllowed statusOf idOf headOf contentPlace contentIn bindingIn bindingAt bindingTagAt seventeenth bindingsFrom readMessage headOctets bindingOctets bindingsOctets messageOctets
+    kindAllowed statusAllowed statusOf idOf headOf contentRole contentIn bindingIn bindingAt bindingTagAt seventeenth bindingsFrom readMessage headOctets bindingOctets bindingsOctets messageOctets
     elem tableFrom tableOf groupOf absent frame arrived sized step run led framesOf groupsOf among common keysAt allNamed readSet eachRead firstWith firstPair isShort vlansTo staticsTo
 short-computed a = (refl, refl, refl, refl, refl)
 

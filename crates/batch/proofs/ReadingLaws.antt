@@ -6,10 +6,10 @@ use mathlib.Core.List.{List, [], _∷_}
 use lib.ListN.{length, getD, take, drop}
 use borrow.Author.Tests.{ne-eqb, eq-eqb}
 use Rattle.message.specs.declared.form.Refusal.{Refusal}
-use Rattle.message.specs.declared.form.Place.the-variants.{Kind}
+use Rattle.message.specs.declared.form.Role.the-variants.{Kind}
 use Rattle.message.specs.declared.form.Checked.{Checked}
 use Rattle.message.specs.declared.request.Binding.{Binding}
-use Rattle.message.specs.Form.{checkedAt, refusal}
+use Rattle.message.specs.Form.{checkedAt, refusal, atKindField, atKind}
 use Rattle.message.specs.Request.{requests, headOf, Reading, refused, message, readMessage, readRequest}
 use Rattle.message.proofs.OffsetLaws.{refused-where}
 use Rattle.console.specs.Batch.{mostFrames, framesMany, octetsAt, Within, Means}
@@ -22,27 +22,27 @@ use Rattle.batch.specs.declared.reads.SetRead.the-variants.{Taken, Refus
 use Rattle.batch.proofs.TurnLaws.{from-end, from-full, from-refused, from-whole}
 
 -- what the code finds of a message
-module _ (m : List ℕ) {k : Checked} (e : k ≡ checkedAt Kind m 0 (length m)) where
+module _ (m : List ℕ) {k : Checked} (e : k ≡ checkedAt Kind m atKindField (length m)) where
   pub set-cut : {r : Refusal} → k ≡ Checked.Refused r → SetMeans m (Refused r)
   unfolding readSet readMessage headOf
   set-cut {r} f =
-      let q : checkedAt Kind m 0 (length m) ≡ Checked.Refused r = sym e ∙ f in
+      let q : checkedAt Kind m atKindField (length m) ≡ Checked.Refused r = sym e ∙ f in
       let x : readRequest m ≡ refused r = rw q in
       (rw q, refused-where requests m r x .most)
 
   module _ {tag start len : ℕ} (f : k ≡ Checked.Found tag start len) where
-    pub set-other : (getD m 3 0 ≡ 3 → ⊥) → SetMeans m (Refused (refusal 7 0))
+    pub set-other : (getD m atKind 0 ≡ 3 → ⊥) → SetMeans m (Refused (refusal 7 atKindField))
     unfolding readSet
-    set-other h = (rw (sym e ∙ f, ne-eqb (getD m 3 0) 3 h), omega arith)
+    set-other h = (rw (sym e ∙ f, ne-eqb (getD m atKind 0) 3 h), omega arith)
 
-    read-so : getD m 3 0 ≡ 3 → readSet m ≡ readRequest m
+    read-so : getD m atKind 0 ≡ 3 → readSet m ≡ readRequest m
     unfolding readSet
-    read-so h = rw (sym e ∙ f, eq-eqb (getD m 3 0) 3 h)
+    read-so h = rw (sym e ∙ f, eq-eqb (getD m atKind 0) 3 h)
 
-    pub set-refused : getD m 3 0 ≡ 3 → {r : Refusal} → readRequest m ≡ refused r → SetMeans m (Refused r)
+    pub set-refused : getD m atKind 0 ≡ 3 → {r : Refusal} → readRequest m ≡ refused r → SetMeans m (Refused r)
     set-refused h q = (read-so h ∙ q, refused-where requests m _ q .most)
 
-    pub set-taken : getD m 3 0 ≡ 3 → {kind id status index : ℕ} {bs : List Binding} → readRequest m ≡ message kind id status index bs → SetMeans m Taken
+    pub set-taken : getD m atKind 0 ≡ 3 → {kind id status index : ℕ} {bs : List Binding} → readRequest m ≡ message kind id status index bs → SetMeans m Taken
     set-taken h {kind} {id} {status} {index} {bs} q i v = ap (λ (x : Reading). readThen i x v) (read-so h ∙ q)
 
 -- the messages one by one

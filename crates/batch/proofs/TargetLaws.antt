@@ -17,10 +17,10 @@ use Rattle.names.specs.Groups.{tableFrom, tableOf}
 use Rattle.message.specs.declared.form.Refusal.{Refusal}
 use Rattle.message.specs.declared.request.Head.{Head}
 use Rattle.message.specs.declared.request.Binding.{Binding}
-use Rattle.message.specs.declared.request.Step.{Step}
+use Rattle.message.specs.declared.request.BindingRead.{BindingRead}
 use Rattle.message.specs.Request.{requests, headOf, bindingAt, seventeenth, Bindings, ended, all, prepend, bindingsFrom, Reading, refused, message, readMessage, readRequest}
 use Rattle.message.proofs.FormLaws.{clash}
-use Rattle.message.proofs.BindingLaws.{Placed, StepTells, binding-tells}
+use Rattle.message.proofs.BindingLaws.{Placed, binding-tells, BindingTells}
 use Rattle.answer.specs.Judge.{Asked, placed, grouped, groupOf}
 use Rattle.answer.specs.Terms.{askedIn, isSet}
 use Rattle.answer.specs.Respond.{askedAt}
@@ -181,8 +181,8 @@ set-bound m e = by-head (headOf requests m) refl
     by-head (Head.Found kind id status index) q = by-bindings kind id status index q (bindingsFrom kind m 16 16) refl
 
 -- a binding that the code finds stands in the message
-pub stands : {m : List ℕ} {at : ℕ} {b : Binding} {next : ℕ} {k : Step} → k ≡ bindingAt 3 m at → k ≡ Step.Bound b next → Placed 3 m at b next
-stands {m} {at} e h = subst (StepTells 3 m at) (sym e ∙ h) (binding-tells 3 m at)
+pub stands : {m : List ℕ} {at : ℕ} {b : Binding} {next : ℕ} {k : BindingRead} → k ≡ bindingAt 3 m at → k ≡ BindingRead.Bound b next → Placed 3 m at b next
+stands {m} {at} e h = subst (BindingTells 3 m at) (sym e ∙ h) (binding-tells 3 m at)
 
 -- the first bindings are named, and the next one stands at `at`
 pub record Sofar (ports : ℕ) (m : List ℕ) (found : List Target) (count at : ℕ) : Type 0 where
@@ -211,12 +211,12 @@ pub record Next (m : List ℕ) (left : ℕ) (rest : List Binding) (b : Binding) 
   pub splits : rest ≡ b ∷ behind
   pub reads : bindingsFrom 3 m later next ≡ all behind
 
-refused-not : (m : List ℕ) (left at : ℕ) (bs : List Binding) {r : Refusal} → at < length m → bindingAt 3 m at ≡ Step.Refused r → bindingsFrom 3 m left at ≡ all bs → ⊥
+refused-not : (m : List ℕ) (left at : ℕ) (bs : List Binding) {r : Refusal} → at < length m → bindingAt 3 m at ≡ BindingRead.Refused r → bindingsFrom 3 m left at ≡ all bs → ⊥
 unfolding bindingsFrom
 refused-not m zero at bs h q e = let z : ended (seventeenth m at) ≡ all bs = sym (rw (lt-leb (length m) at h) refl) ∙ e in clash (cc)
 refused-not m (suc left) at bs {r} h q e = let z : ended r ≡ all bs = sym (rw (lt-leb (length m) at h, q) refl) ∙ e in clash (cc)
 
-one-next : (m : List ℕ) (left at : ℕ) (bs : List Binding) {b : Binding} {next : ℕ} → at < length m → bindingAt 3 m at ≡ Step.Bound b next → bindingsFrom 3 m left at ≡ all bs
+one-next : (m : List ℕ) (left at : ℕ) (bs : List Binding) {b : Binding} {next : ℕ} → at < length m → bindingAt 3 m at ≡ BindingRead.Bound b next → bindingsFrom 3 m left at ≡ all bs
     → Next m left bs b next
 unfolding bindingsFrom
 one-next m zero at bs h q e = let z : ended (seventeenth m at) ≡ all bs = sym (rw (lt-leb (length m) at h) refl) ∙ e in clash (cc)
@@ -237,11 +237,11 @@ module _ {ports : ℕ} {m : List ℕ} {found : List Target} {count at : ℕ} (w 
         w .long,
       )
 
-  module _ (h : at < length m) {k : Step} (e : k ≡ bindingAt 3 m at) where
-    pub sofar-refused : {r : Refusal} → k ≡ Step.Refused r → ⊥
+  module _ (h : at < length m) {k : BindingRead} (e : k ≡ bindingAt 3 m at) where
+    pub sofar-refused : {r : Refusal} → k ≡ BindingRead.Refused r → ⊥
     sofar-refused q = refused-not m (w .left) at (w .rest) h (sym e ∙ q) (w .reads)
 
-    module _ {b : Binding} {next : ℕ} (q : k ≡ Step.Bound b next) where
+    module _ {b : Binding} {next : ℕ} (q : k ≡ BindingRead.Bound b next) where
       after : Next m (w .left) (w .rest) b next
       after = one-next m (w .left) at (w .rest) h (sym e ∙ q) (w .reads)
 

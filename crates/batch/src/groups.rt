@@ -13,7 +13,8 @@ ghost use Rattle.answer.specs.Terms.{isSet};
 ghost use Rattle.answer.specs.Judge.{placed, groupOf};
 ghost use Rattle.batch.specs.Names.{groupsOf, sameGroup, among, common};
 ghost use Rattle.batch.specs.Found.{meant, targets, Few};
-use message::request::Step;
+use message::form::HEAD_SIZE;
+use message::request::BindingRead;
 use message::request::binding_at;
 use names::Key;
 use names::index::key_of;
@@ -38,10 +39,8 @@ pub const NOTHING: usize = 35;
 
 const NO_TARGET: Target = Target { table: 35, key: 0 };
 
-// The kind of a set, and where a message's bindings start.
+// The kind of a set.
 pub const SET: u8 = 3;
-
-const HEAD_OCTETS: usize = 16;
 
 // The first object of each object's table, by the object's place; the three bridge timers are one scalar.
 const TABLES: [usize; 35] = [
@@ -126,13 +125,13 @@ pub fn targets_of(ports: u32, m: &[u8]) -> Targets
 {
     let mut all = [NO_TARGET; 16];
     let mut count: usize = 0;
-    let mut at: usize = HEAD_OCTETS;
+    let mut at: usize = HEAD_SIZE;
     while at < m.len() {
         match binding_at(SET, m, at) {
-            Step::Refused(_) => {
+            BindingRead::Refused(_) => {
                 return Targets { count, all };
             }
-            Step::Bound { binding, next } => {
+            BindingRead::Bound { binding, next } => {
                 let start = binding.name;
                 let end = start + binding.size;
                 all[count] = target_of(ports, &m[start..end]);

@@ -12,7 +12,7 @@ use Rattle.names.proofs.SubIdLaws.{length-nameOctets}
 use Rattle.message.specs.declared.request.Binding.{Binding}
 use Rattle.message.specs.Form.{tagAllowed, contentLength}
 use Rattle.message.specs.Request as request
-use Rattle.message.specs.Request.{contentPlace}
+use Rattle.message.specs.Request.{contentRole}
 use Rattle.message.specs.Answer.{messageOctets, mostOctets}
 use Rattle.message.specs.Theorems.{Carried, AllCarried}
 use Rattle.message.proofs.FormLaws.{cond-cases}
@@ -83,7 +83,7 @@ content-sized tag xs =
 
 -- ## So what was read is carried by a message
 
-carried : (kind : ℕ) (s : List ℕ) (b : Binding) → Within s b → tagAllowed (contentPlace kind) (b .tag) ≡ true → Carried kind (boundAt s b)
+carried : (kind : ℕ) (s : List ℕ) (b : Binding) → Within s b → tagAllowed (contentRole kind) (b .tag) ≡ true → Carried kind (boundAt s b)
 unfolding boundAt
 carried kind s b w t =
     let name : List ℕ = part s (b .name) (b .size) in

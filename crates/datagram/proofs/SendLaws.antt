@@ -15,17 +15,16 @@ use Rattle.octets.proofs.NumberLaws.{length-beOctets}
 use Rattle.octets.proofs.PartLaws.{patch-none, patch-patch}
 use Rattle.message.specs.declared.form.Field.{Field}
 use Rattle.message.specs.declared.form.Field.the-variants.{Cut, Whole}
-use Rattle.message.specs.declared.form.Place.{Place}
-use Rattle.message.specs.declared.form.Place.the-variants.{Kind, Id, Status, Bind, Name, Answered}
+use Rattle.message.specs.declared.form.Role.{Role}
+use Rattle.message.specs.declared.form.Role.the-variants.{Kind, Id, Status, Bind, Name, Answered}
 use Rattle.message.specs.declared.form.Refusal.{Refusal}
 use Rattle.message.specs.declared.form.Checked.{Checked}
 use Rattle.message.specs.declared.request.Head.{Head}
 use Rattle.message.specs.declared.request.Binding.{Binding}
-use Rattle.message.specs.declared.request.Step.{Step}
-use Rattle.message.specs.Form.{fieldAt, tagAllowed, contentLength, lengthRight, refusal, judged, checkedAt}
-use Rattle.message.specs.Request.{checkedThen, statusAllowed, statusOf, idOf, contentPlace, contentIn, bindingTagAt, notBinding, seventeenth, Bindings, ended, all, prepend, stepThen, noBinding, withBindings}
-use Rattle.message.specs.Answer.{Bound, mostOctets}
-use Rattle.message.specs.Theorems.{boundAt}
+use Rattle.message.specs.declared.request.BindingRead.{BindingRead}
+use Rattle.message.specs.Form.{fieldAt, tagAllowed, contentLength, lengthRight, refusal, judged, checkedAt, atKindField, atKind, atIdField, atStatusField, headSize, mostBindings}
+use Rattle.message.specs.Request.{checkedThen, statusAllowed, statusOf, idOf, contentRole, contentIn, bindingTagAt, notBinding, seventeenth, Bindings, ended, all, prepend, bindingThen, noBinding, withBindings}
+use Rattle.message.specs.Answer.{Bound, mostOctets, boundAt}
 use Rattle.message.proofs.FormLaws.{InPlace, told, cond-cases, clash}
 use Rattle.datagram.specs.declared.response.Answers.{Answers}
 use Rattle.datagram.specs.Writing.{lengthForm, headerForm, berOctets, shortened, nameBer, berTag, contentBer, bindingBer, bindingsBer, responseBer, responseFields, responseFront, datagramFields, datagramFront, datagramOctets, nameWritten, responseIn, responseAt, responsesFrom, responseHead, readResponse, answersOf, Writable, Ready, Put, notSent, sent, sentBy, toDatagram}
@@ -276,7 +275,7 @@ abbrev Placed : ℕ → Checked → Type 0
 Placed at (Checked.Refused r) = r .at ≡ at
 Placed at (Checked.Found tag start len) = Unit {0}
 
-placed : (p : Place) (s : List ℕ) (at end : ℕ) → Placed at (checkedAt p s at end)
+placed : (p : Role) (s : List ℕ) (at end : ℕ) → Placed at (checkedAt p s at end)
 unfolding checkedAt judged
 placed p s at end = go (fieldAt s at end)
   where
@@ -284,7 +283,7 @@ placed p s at end = go (fieldAt s at end)
     go Cut = refl
     go (Whole tag start len) = cond-cases (Placed at) (tagAllowed p tag) (λ _. cond-cases (Placed at) (lengthRight p tag len) (λ _. tt) (λ _. refl)) (λ _. refl)
 
-pub checked-cases : {A : Type 0} (P : A → Type 0) (p : Place) (s : List ℕ) (at end : ℕ) {stop : Refusal → A} {go : ℕ → ℕ → ℕ → A}
+pub checked-cases : {A : Type 0} (P : A → Type 0) (p : Role) (s : List ℕ) (at end : ℕ) {stop : Refusal → A} {go : ℕ → ℕ → ℕ → A}
     → ((r : Refusal) → r .at ≡ at → P (stop r)) → ((tag start len : ℕ) → checkedAt p s at end ≡ Checked.Found tag start len → P (go tag start len)) → P (checkedThen (checkedAt p s at end) stop go)
 checked-cases P p s at end {stop} {go} refuses finds = cases (checkedAt p s at end) refl (placed p s at end)
   where
@@ -321,10 +320,10 @@ HeadTells (Head.Found kind id status index) = kind ≡ 2
 head-tells : (s : List ℕ) → HeadTells (responseHead s)
 unfolding responseHead idOf statusOf statusAllowed
 head-tells s =
-    checked-cases HeadTells Kind s 0 (length s) (λ r e. omega arith)
-    (λ tag start len e. cond-cases HeadTells (eqb (getD s 3 0) 2)
-    (λ t. checked-cases HeadTells Id s 4 (length s) (λ r f. omega arith)
-    (λ itag istart ilen f. checked-cases HeadTells Status s 11 (length s) (λ r g. omega arith) (λ stag sstart slen g. refl)))
+    checked-cases HeadTells Kind s atKindField (length s) (λ r e. omega arith)
+    (λ tag start len e. cond-cases HeadTells (eqb (getD s atKind 0) 2)
+    (λ t. checked-cases HeadTells Id s atIdField (length s) (λ r f. omega arith)
+    (λ itag istart ilen f. checked-cases HeadTells Status s atStatusField (length s) (λ r g. omega arith) (λ stag sstart slen g. refl)))
     (λ t. omega arith))
 
 pub head-refused : (s : List ℕ) {h : Head} {r : Refusal} → h ≡ responseHead s → h ≡ Head.Refused r → r .at ≤ 16
@@ -334,12 +333,12 @@ pub head-kind : (s : List ℕ) {h : Head} {kind id status index : ℕ} → h ≡
 head-kind s e f = subst HeadTells (sym e ∙ f) (head-tells s)
 
 module _ (s : List ℕ) where
-  abbrev StepTells : ℕ → Step → Type 0
-  StepTells at (Step.Refused r) = r .at ≤ length s + 16
-  StepTells at (Step.Bound b next) = Writable s b × (next ≡ at + (9 + b .size + b .len)) × (next ≤ length s)
+  abbrev StepTells : ℕ → BindingRead → Type 0
+  StepTells at (BindingRead.Refused r) = r .at ≤ length s + 16
+  StepTells at (BindingRead.Bound b next) = Writable s b × (next ≡ at + (9 + b .size + b .len)) × (next ≤ length s)
 
   step-tells : (at : ℕ) → at ≤ length s → StepTells at (responseAt s at)
-  unfolding responseAt responseIn contentIn contentPlace lengthRight
+  unfolding responseAt responseIn contentIn contentRole lengthRight
   step-tells at h =
       checked-cases (StepTells at) Bind s at (length s) (λ r e. omega arith)
       (λ tag start len e.
@@ -388,9 +387,9 @@ module _ (s : List ℕ) where
   BindingsTell left at (ended r) = r .at ≤ length s + 16
   BindingsTell left at (all bs) = (length bs ≤ left) × AllWritable bs
 
-  more-tells : (left at : ℕ) (k : Step) (go : ℕ → Bindings) → StepTells at k → ((next : ℕ) → BindingsTell left next (go next)) → BindingsTell (suc left) at (stepThen k go)
-  more-tells left at (Step.Refused r) go w h = w
-  more-tells left at (Step.Bound b next) go w h = prepended (go next) (h next)
+  more-tells : (left at : ℕ) (k : BindingRead) (go : ℕ → Bindings) → StepTells at k → ((next : ℕ) → BindingsTell left next (go next)) → BindingsTell (suc left) at (bindingThen k go)
+  more-tells left at (BindingRead.Refused r) go w h = w
+  more-tells left at (BindingRead.Bound b next) go w h = prepended (go next) (h next)
     where
       prepended : (x : Bindings) → BindingsTell left next x → BindingsTell (suc left) at (prepend b x)
       prepended (ended r) v = v
@@ -409,11 +408,11 @@ module _ (s : List ℕ) where
   all-at (b ∷ bs) w (suc i) h = all-at bs (w .1) i (omega arith)
 
   -- what the code holds of the bindings
-  module _ {d : Answers} (q : d ≡ answersOf (responsesFrom s 16 16)) where
-    pub answers-refused : d .whole ≡ false → (responsesFrom s 16 16 ≡ ended (d .refusal)) × (d .refusal .at ≤ length s + 16)
-    answers-refused h = go (responsesFrom s 16 16) refl (bindings-tell 16 16) q
+  module _ {d : Answers} (q : d ≡ answersOf (responsesFrom s mostBindings headSize)) where
+    pub answers-refused : d .whole ≡ false → (responsesFrom s mostBindings headSize ≡ ended (d .refusal)) × (d .refusal .at ≤ length s + 16)
+    answers-refused h = go (responsesFrom s mostBindings headSize) refl (bindings-tell 16 16) q
       where
-        go : (x : Bindings) → responsesFrom s 16 16 ≡ x → BindingsTell 16 16 x → d ≡ answersOf x → (responsesFrom s 16 16 ≡ ended (d .refusal)) × (d .refusal .at ≤ length s + 16)
+        go : (x : Bindings) → responsesFrom s mostBindings headSize ≡ x → BindingsTell 16 16 x → d ≡ answersOf x → (responsesFrom s mostBindings headSize ≡ ended (d .refusal)) × (d .refusal .at ≤ length s + 16)
         go (ended r) e w f =
             let z : d .refusal ≡ r = ap (λ (u : Answers). u .refusal) f in
             (e ∙ ap ended (sym z), rw z w)
@@ -421,10 +420,10 @@ module _ (s : List ℕ) where
             let z : d .whole ≡ true = ap (λ (u : Answers). u .whole) f in
             clash (cc)
 
-    pub answers-whole : d .whole ≡ true → (responsesFrom s 16 16 ≡ all (take (d .count) (d .bindings))) × Ready s (d .bindings) (d .count)
-    answers-whole h = go (responsesFrom s 16 16) refl (bindings-tell 16 16) q
+    pub answers-whole : d .whole ≡ true → (responsesFrom s mostBindings headSize ≡ all (take (d .count) (d .bindings))) × Ready s (d .bindings) (d .count)
+    answers-whole h = go (responsesFrom s mostBindings headSize) refl (bindings-tell 16 16) q
       where
-        go : (x : Bindings) → responsesFrom s 16 16 ≡ x → BindingsTell 16 16 x → d ≡ answersOf x → (responsesFrom s 16 16 ≡ all (take (d .count) (d .bindings))) × Ready s (d .bindings) (d .count)
+        go : (x : Bindings) → responsesFrom s mostBindings headSize ≡ x → BindingsTell 16 16 x → d ≡ answersOf x → (responsesFrom s mostBindings headSize ≡ all (take (d .count) (d .bindings))) × Ready s (d .bindings) (d .count)
         go (ended r) e w f =
             let z : d .whole ≡ false = ap (λ (u : Answers). u .whole) f in
             clash (cc)
@@ -450,12 +449,12 @@ module _ (room community s : List ℕ) where
   unfolding toDatagram
   call-long h k = rw (le-ltb (length room) mostOctets h, lt-ltb mostOctets (length s) k)
 
-  pub bindings-refused : (id status index : ℕ) {r : Refusal} → responsesFrom s 16 16 ≡ ended r → notSent (r .number) (r .at) room ≡ sentBy room community s (withBindings 2 id status index (responsesFrom s 16 16))
+  pub bindings-refused : (id status index : ℕ) {r : Refusal} → responsesFrom s mostBindings headSize ≡ ended r → notSent (r .number) (r .at) room ≡ sentBy room community s (withBindings 2 id status index (responsesFrom s mostBindings headSize))
   unfolding sentBy
   bindings-refused id status index e = rw e
 
-  pub bindings-sent : (id status index : ℕ) {bs : List Binding} → responsesFrom s 16 16 ≡ all bs
-      → sent room (datagramOctets community id status index (map (boundAt s) bs)) ≡ sentBy room community s (withBindings 2 id status index (responsesFrom s 16 16))
+  pub bindings-sent : (id status index : ℕ) {bs : List Binding} → responsesFrom s mostBindings headSize ≡ all bs
+      → sent room (datagramOctets community id status index (map (boundAt s) bs)) ≡ sentBy room community s (withBindings 2 id status index (responsesFrom s mostBindings headSize))
   unfolding sentBy
   bindings-sent id status index e = rw e
 
@@ -465,7 +464,7 @@ module _ (room community s : List ℕ) where
     call-refused f = rw (le-ltb (length room) mostOctets h, le-ltb mostOctets (length s) k, ← e, f)
 
     pub call-read : {kind id status index : ℕ} → d ≡ Head.Found kind id status index
-        → sentBy room community s (withBindings 2 id status index (responsesFrom s 16 16)) ≡ toDatagram room community s
+        → sentBy room community s (withBindings 2 id status index (responsesFrom s mostBindings headSize)) ≡ toDatagram room community s
     unfolding toDatagram readResponse
     call-read {kind} {id} {status} {index} f =
         let z : kind ≡ 2 = head-kind s e f in

@@ -9,14 +9,13 @@ use lib.Dec.{leb, ltb, eqb}
 use Rattle.octets.specs.Numbers.{beAt, beOctets}
 use Rattle.octets.specs.Parts.{patch}
 use Rattle.names.specs.SubIds.{subids}
-use Rattle.message.specs.declared.form.Place.the-variants.{Kind, Bind, Name}
+use Rattle.message.specs.declared.form.Role.the-variants.{Kind, Bind, Name}
 use Rattle.message.specs.declared.request.Head.{Head}
 use Rattle.message.specs.declared.request.Binding.{Binding}
-use Rattle.message.specs.declared.request.Step.{Step}
-use Rattle.message.specs.Form.{checkedAt, contentLength, refusal}
-use Rattle.message.specs.Request.{checkedThen, idOf, contentIn, seventeenth, Bindings, ended, all, stepThen, Reading, refused, message, withBindings, headThen, noBinding}
-use Rattle.message.specs.Answer.{Bound, mostOctets}
-use Rattle.message.specs.Theorems.{boundAt}
+use Rattle.message.specs.declared.request.BindingRead.{BindingRead}
+use Rattle.message.specs.Form.{checkedAt, contentLength, refusal, atKindField, atKind, headSize, mostBindings}
+use Rattle.message.specs.Request.{checkedThen, idOf, contentIn, seventeenth, Bindings, ended, all, bindingThen, Reading, refused, message, withBindings, headThen, noBinding}
+use Rattle.message.specs.Answer.{Bound, mostOctets, boundAt}
 use Rattle.datagram.specs.Ber.{fewest}
 use Rattle.datagram.specs.declared.response.Answers.{Answers}
 use Rattle.datagram.specs.declared.sending.Written.{Written}
@@ -126,25 +125,25 @@ unfoldable pub nameWritten : List ℕ → ℕ → Bool
 nameWritten s at = eqb (beAt s at 4) 2 || (ltb (beAt s at 4) 2 && ltb (beAt s (at + 4) 4) 40)
 
 -- "19 .. name with no counterpart" is judged at the name, before the content
-unfoldable pub responseIn : List ℕ → (at end : ℕ) → Step
+unfoldable pub responseIn : List ℕ → (at end : ℕ) → BindingRead
 responseIn s at end =
-    checkedThen (checkedAt Name s at end) Step.Refused
-    (λ tag start len. cond (nameWritten s start) (contentIn 2 s end start len) (Step.Refused (refusal 19 0)))
+    checkedThen (checkedAt Name s at end) BindingRead.Refused
+    (λ tag start len. cond (nameWritten s start) (contentIn 2 s end start len) (BindingRead.Refused (refusal 19 0)))
 
-unfoldable pub responseAt : List ℕ → ℕ → Step
-responseAt s at = checkedThen (checkedAt Bind s at (length s)) Step.Refused (λ tag start len. responseIn s start (start + len))
+unfoldable pub responseAt : List ℕ → ℕ → BindingRead
+responseAt s at = checkedThen (checkedAt Bind s at (length s)) BindingRead.Refused (λ tag start len. responseIn s start (start + len))
 
 unfoldable pub responsesFrom : List ℕ → (left at : ℕ) → Bindings
 responsesFrom s zero at = cond (leb (length s) at) (all []) (ended (seventeenth s at))
-responsesFrom s (suc left) at = cond (leb (length s) at) (all []) (stepThen (responseAt s at) (λ next. responsesFrom s left next))
+responsesFrom s (suc left) at = cond (leb (length s) at) (all []) (bindingThen (responseAt s at) (λ next. responsesFrom s left next))
 
 -- "7 only for another kind": the status and the index of a response are any
 unfoldable pub responseHead : List ℕ → Head
 responseHead s =
-    checkedThen (checkedAt Kind s 0 (length s)) Head.Refused (λ tag start len. cond (eqb (getD s 3 0) 2) (idOf s 2) (Head.Refused (refusal 7 0)))
+    checkedThen (checkedAt Kind s atKindField (length s)) Head.Refused (λ tag start len. cond (eqb (getD s atKind 0) 2) (idOf s 2) (Head.Refused (refusal 7 atKindField)))
 
 unfoldable pub readResponse : List ℕ → Reading
-readResponse s = headThen (responseHead s) (λ kind id status index. withBindings kind id status index (responsesFrom s 16 16))
+readResponse s = headThen (responseHead s) (λ kind id status index. withBindings kind id status index (responsesFrom s mostBindings headSize))
 
 -- bindings as the code holds them: empty ones after them up to 16
 abbrev pub answersOf : Bindings → Answers

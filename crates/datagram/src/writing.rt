@@ -6,7 +6,7 @@ ghost use mathlib.Core.List.{_∷_};
 ghost use lib.ListN.{length};
 ghost use Rattle.octets.specs.Parts.{part, patch};
 ghost use Rattle.message.specs.Form.{contentLength};
-ghost use Rattle.message.specs.Theorems.{boundAt};
+ghost use Rattle.message.specs.Answer.{boundAt};
 ghost use Rattle.datagram.specs.Writing.{headerForm, goingOn, base128, shortened, nameBer, nameWritten, berTag, contentBer, bindingBer, berOctets, Writable, Put};
 use super::ber::is_fewest;
 use message::request::Binding;

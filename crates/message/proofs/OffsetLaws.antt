@@ -11,14 +11,14 @@ use Rattle.octets.proofs.PartLaws.{both}
 use Rattle.message.specs.declared.form.Refusal.{Refusal}
 use Rattle.message.specs.declared.form.Field.{Field}
 use Rattle.message.specs.declared.form.Field.the-variants.{Cut, Whole}
-use Rattle.message.specs.declared.form.Place.{Place}
-use Rattle.message.specs.declared.form.Place.the-variants.{Kind, Id, Status, Bind, Name}
+use Rattle.message.specs.declared.form.Role.{Role}
+use Rattle.message.specs.declared.form.Role.the-variants.{Kind, Id, Status, Bind, Name}
 use Rattle.message.specs.declared.form.Checked.{Checked}
 use Rattle.message.specs.declared.request.Head.{Head}
 use Rattle.message.specs.declared.request.Binding.{Binding}
-use Rattle.message.specs.declared.request.Step.{Step}
-use Rattle.message.specs.Form.{fieldAt, tagAllowed, lengthRight, judged, checkedAt, refusal}
-use Rattle.message.specs.Request.{Takes, kindAllowed, statusAllowed, statusOf, idOf, headOf, contentPlace, contentIn, bindingIn, bindingAt, bindingTagAt, seventeenth, notBinding, Bindings, ended, all, prepend, stepThen, bindingsFrom, Reading, refused, message, checkedThen, headThen, withBindings, readMessage}
+use Rattle.message.specs.declared.request.BindingRead.{BindingRead}
+use Rattle.message.specs.Form.{fieldAt, tagAllowed, lengthRight, judged, checkedAt, refusal, atKindField, atKind, atIdField, atStatusField, atStatus, atIndex, headSize, mostBindings}
+use Rattle.message.specs.Request.{Takes, kindAllowed, statusAllowed, statusOf, idOf, headOf, contentRole, contentIn, bindingIn, bindingAt, bindingTagAt, seventeenth, notBinding, Bindings, ended, all, prepend, bindingThen, bindingsFrom, Reading, refused, message, checkedThen, headThen, withBindings, readMessage}
 use Rattle.message.specs.Theorems.{FieldStart, first, behind, enclosed, Placed, RefusedWhere, BindingsTo, Seventeenth, EightExactly}
 use Rattle.message.proofs.FormLaws.{InPlace, Numbered, told, clash, kind-fits, id-fits, status-fits, cond-cases}
 
@@ -27,7 +27,7 @@ abbrev StandsAt : List ℕ → (at end : ℕ) → Checked → Type 0
 StandsAt s at end (Checked.Refused r) = (r .at ≡ at) × (r .number < 8)
 StandsAt s at end (Checked.Found tag start len) = fieldAt s at end ≡ Whole tag start len
 
-stands : (p : Place) (s : List ℕ) (at end : ℕ) → StandsAt s at end (checkedAt p s at end)
+stands : (p : Role) (s : List ℕ) (at end : ℕ) → StandsAt s at end (checkedAt p s at end)
 unfolding checkedAt judged
 stands p s at end = go (fieldAt s at end) refl
   where
@@ -36,7 +36,7 @@ stands p s at end = go (fieldAt s at end) refl
     go (Whole tag start len) h =
         cond-cases (StandsAt s at end) (tagAllowed p tag) (λ _. cond-cases (StandsAt s at end) (lengthRight p tag len) (λ _. h) (λ _. (refl, omega arith))) (λ _. (refl, omega arith))
 
-place-cases : {A : Type 0} (P : A → Type 0) (p : Place) (s : List ℕ) (at end : ℕ) {stop : Refusal → A} {go : ℕ → ℕ → ℕ → A}
+place-cases : {A : Type 0} (P : A → Type 0) (p : Role) (s : List ℕ) (at end : ℕ) {stop : Refusal → A} {go : ℕ → ℕ → ℕ → A}
     → ((r : Refusal) → (r .at ≡ at) × (r .number < 8) → P (stop r))
     → ((tag start len : ℕ) → checkedAt p s at end ≡ Checked.Found tag start len → fieldAt s at end ≡ Whole tag start len → P (go tag start len))
     → P (checkedThen (checkedAt p s at end) stop go)
@@ -56,52 +56,52 @@ module _ (s : List ℕ) where
 
   abbrev HeadPlaced : Head → Type 0
   HeadPlaced (Head.Refused r) = Placed s r
-  HeadPlaced (Head.Found kind id status index) = FieldStart s 16
+  HeadPlaced (Head.Found kind id status index) = FieldStart s headSize
 
   -- the three fields before the bindings stand one behind the other
   module _ {tag start len : ℕ} where
-    id-starts : checkedAt Kind s 0 (length s) ≡ Checked.Found tag start len → fieldAt s 0 (length s) ≡ Whole tag start len → FieldStart s 4
+    id-starts : checkedAt Kind s atKindField (length s) ≡ Checked.Found tag start len → fieldAt s 0 (length s) ≡ Whole tag start len → FieldStart s atIdField
     unfolding lengthRight
     id-starts e w =
-        let i : InPlace Kind 0 (length s) tag start len = told s refl e in
-        behind {end = length s} {next = 4} first (omega arith) w (omega (arith, i .starts, eqb-true len 1 (i .right)))
+        let i : InPlace Kind atKindField (length s) tag start len = told s refl e in
+        behind {end = length s} {next = atIdField} first (omega arith) w (omega (arith, i .starts, eqb-true len 1 (i .right)))
 
-    status-starts : FieldStart s 4 → checkedAt Id s 4 (length s) ≡ Checked.Found tag start len → fieldAt s 4 (length s) ≡ Whole tag start len → FieldStart s 11
+    status-starts : FieldStart s atIdField → checkedAt Id s atIdField (length s) ≡ Checked.Found tag start len → fieldAt s atIdField (length s) ≡ Whole tag start len → FieldStart s atStatusField
     unfolding lengthRight
     status-starts f e w =
-        let i : InPlace Id 4 (length s) tag start len = told s refl e in
-        behind {end = length s} {next = 11} f (omega arith) w (omega (arith, i .starts, eqb-true len 4 (i .right)))
+        let i : InPlace Id atIdField (length s) tag start len = told s refl e in
+        behind {end = length s} {next = atStatusField} f (omega arith) w (omega (arith, i .starts, eqb-true len 4 (i .right)))
 
-    bindings-start : FieldStart s 11 → checkedAt Status s 11 (length s) ≡ Checked.Found tag start len → fieldAt s 11 (length s) ≡ Whole tag start len → FieldStart s 16
+    bindings-start : FieldStart s atStatusField → checkedAt Status s atStatusField (length s) ≡ Checked.Found tag start len → fieldAt s atStatusField (length s) ≡ Whole tag start len → FieldStart s headSize
     unfolding lengthRight
     bindings-start f e w =
-        let i : InPlace Status 11 (length s) tag start len = told s refl e in
-        behind {end = length s} {next = 16} f (omega arith) w (omega (arith, i .starts, eqb-true len 2 (i .right)))
+        let i : InPlace Status atStatusField (length s) tag start len = told s refl e in
+        behind {end = length s} {next = headSize} f (omega arith) w (omega (arith, i .starts, eqb-true len 2 (i .right)))
 
   head-placed : (t : Takes) → HeadPlaced (headOf t s)
   unfolding headOf idOf statusOf
   head-placed t =
-      place-cases HeadPlaced Kind s 0 (length s) (starts-at first (omega arith)) (λ tag start len e w.
-      cond-cases HeadPlaced (kindAllowed t (getD s 3 0))
+      place-cases HeadPlaced Kind s atKindField (length s) (starts-at first (omega arith)) (λ tag start len e w.
+      cond-cases HeadPlaced (kindAllowed t (getD s atKind 0))
       (λ _.
-      let i : FieldStart s 4 = id-starts e w in
-      place-cases HeadPlaced Id s 4 (length s) (starts-at i (omega (arith, kind-fits s 0 refl e))) (λ tag start len f v.
-      let j : FieldStart s 11 = status-starts i f v in
-      place-cases HeadPlaced Status s 11 (length s) (starts-at j (omega (arith, id-fits s 4 refl f))) (λ tag start len g u.
-      cond-cases HeadPlaced (statusAllowed (getD s 3 0) (getD s 14 0) (getD s 15 0)) (λ _. bindings-start j g u)
-      (λ _. stands-at j (omega (arith, id-fits s 4 refl f)) (refusal 7 11) refl))))
-      (λ _. stands-at first (omega arith) (refusal 7 0) refl))
+      let i : FieldStart s atIdField = id-starts e w in
+      place-cases HeadPlaced Id s atIdField (length s) (starts-at i (omega (arith, kind-fits s atKindField refl e))) (λ tag start len f v.
+      let j : FieldStart s atStatusField = status-starts i f v in
+      place-cases HeadPlaced Status s atStatusField (length s) (starts-at j (omega (arith, id-fits s atIdField refl f))) (λ tag start len g u.
+      cond-cases HeadPlaced (statusAllowed (getD s atKind 0) (getD s atStatus 0) (getD s atIndex 0)) (λ _. bindings-start j g u)
+      (λ _. stands-at j (omega (arith, id-fits s atIdField refl f)) (refusal 7 atStatusField) refl))))
+      (λ _. stands-at first (omega arith) (refusal 7 atKindField) refl))
 
   module _ (kind : ℕ) where
-    abbrev StepPlaced : Step → Type 0
-    StepPlaced (Step.Refused r) = Placed s r
-    StepPlaced (Step.Bound b next) = FieldStart s next
+    abbrev StepPlaced : BindingRead → Type 0
+    StepPlaced (BindingRead.Refused r) = Placed s r
+    StepPlaced (BindingRead.Bound b next) = FieldStart s next
 
     content-placed : (end name size : ℕ) → FieldStart s (name + size) → FieldStart s end → name + size ≤ end → end ≤ length s
         → StepPlaced (contentIn kind s end name size)
     unfolding contentIn
     content-placed end name size f n k h =
-        place-cases StepPlaced (contentPlace kind) s (name + size) end (starts-at f (omega arith)) (λ tag start len e w.
+        place-cases StepPlaced (contentRole kind) s (name + size) end (starts-at f (omega arith)) (λ tag start len e w.
         cond-cases StepPlaced (leb end (start + len)) (λ _. n)
         (λ q. stands-at (behind f h w refl) (omega (arith, leb-false end (start + len) q)) (refusal 6 (start + len)) refl))
 
@@ -131,9 +131,9 @@ module _ (s : List ℕ) where
         go Cut = stands-at f h (refusal 4 at) refl
         go (Whole tag start len) = stands-at f h (refusal 5 at) refl
 
-    more-placed : (k : Step) (go : ℕ → Bindings) → StepPlaced k → ((next : ℕ) → FieldStart s next → BindingsPlaced (go next)) → BindingsPlaced (stepThen k go)
-    more-placed (Step.Refused r) go w h = w
-    more-placed (Step.Bound b next) go w h = prepended (go next) (h next w)
+    more-placed : (k : BindingRead) (go : ℕ → Bindings) → StepPlaced k → ((next : ℕ) → FieldStart s next → BindingsPlaced (go next)) → BindingsPlaced (bindingThen k go)
+    more-placed (BindingRead.Refused r) go w h = w
+    more-placed (BindingRead.Bound b next) go w h = prepended (go next) (h next w)
       where
         prepended : (x : Bindings) → BindingsPlaced x → BindingsPlaced (prepend b x)
         prepended (ended r) v = v
@@ -159,9 +159,9 @@ module _ (s : List ℕ) where
       ends kind id status index (ended r) v = v
       ends kind id status index (all bs) v = tt
 
-      go : (h : Head) → HeadPlaced h → ReadingPlaced (headThen h (λ kind id status index. withBindings kind id status index (bindingsFrom kind s 16 16)))
+      go : (h : Head) → HeadPlaced h → ReadingPlaced (headThen h (λ kind id status index. withBindings kind id status index (bindingsFrom kind s mostBindings headSize)))
       go (Head.Refused r) w = w
-      go (Head.Found kind id status index) w = ends kind id status index (bindingsFrom kind s 16 16) (bindings-placed kind 16 16 w)
+      go (Head.Found kind id status index) w = ends kind id status index (bindingsFrom kind s mostBindings headSize) (bindings-placed kind mostBindings headSize w)
 
 -- the offset of a refusal
 pub refused-where : RefusedWhere
@@ -169,16 +169,16 @@ refused-where t s r e = subst (ReadingPlaced s) e (reading-placed s t)
 
 -- Refusal 8: no field's own refusal is 8, so it is the 17th binding's
 module _ (s : List ℕ) (kind : ℕ) where
-  abbrev BelowEight : Step → Type 0
-  BelowEight (Step.Refused r) = r .number < 8
-  BelowEight (Step.Bound b next) = Unit {0}
+  abbrev BelowEight : BindingRead → Type 0
+  BelowEight (BindingRead.Refused r) = r .number < 8
+  BelowEight (BindingRead.Bound b next) = Unit {0}
 
   binding-below : (at : ℕ) → BelowEight (bindingAt kind s at)
   unfolding bindingAt bindingIn contentIn
   binding-below at =
       place-cases BelowEight Bind s at (length s) (λ r e. e .1) (λ tag start len e w.
       place-cases BelowEight Name s start (start + len) (λ r e. e .1) (λ tag2 start2 len2 e w.
-      place-cases BelowEight (contentPlace kind) s (start2 + len2) (start + len) (λ r e. e .1) (λ tag3 start3 len3 e w.
+      place-cases BelowEight (contentRole kind) s (start2 + len2) (start + len) (λ r e. e .1) (λ tag3 start3 len3 e w.
       cond-cases BelowEight (leb (start + len) (start3 + len3)) (λ _. tt) (λ _. omega arith))))
 
   abbrev EndsEight : (left at : ℕ) → Bindings → Type 0
@@ -193,11 +193,11 @@ module _ (s : List ℕ) (kind : ℕ) where
       go Cut = λ e. absurd (omega arith)
       go (Whole tag start len) = λ e. absurd (omega arith)
 
-  more-ends : (left at : ℕ) → at < length s → (k : Step) → bindingAt kind s at ≡ k → BelowEight k
+  more-ends : (left at : ℕ) → at < length s → (k : BindingRead) → bindingAt kind s at ≡ k → BelowEight k
       → ((next : ℕ) → EndsEight left next (bindingsFrom kind s left next))
-      → EndsEight (suc left) at (stepThen k (bindingsFrom kind s left))
-  more-ends left at l (Step.Refused r) q w h = λ e. absurd (omega arith)
-  more-ends left at l (Step.Bound b next) q w h = prepended (bindingsFrom kind s left next) (h next)
+      → EndsEight (suc left) at (bindingThen k (bindingsFrom kind s left))
+  more-ends left at l (BindingRead.Refused r) q w h = λ e. absurd (omega arith)
+  more-ends left at l (BindingRead.Bound b next) q w h = prepended (bindingsFrom kind s left next) (h next)
     where
       prepended : (x : Bindings) → EndsEight left next x → EndsEight (suc left) at (prepend b x)
       prepended (ended r) v = λ e. let u = v e in ((b, next, l, q, u .0), u .1)
@@ -229,12 +229,12 @@ module _ (t : Takes) (s : List ℕ) where
   head-below : HeadBelow (headOf t s)
   unfolding headOf idOf statusOf
   head-below =
-      place-cases HeadBelow Kind s 0 (length s) (λ r e. e .1) (λ tag start len e w.
-      cond-cases HeadBelow (kindAllowed t (getD s 3 0))
+      place-cases HeadBelow Kind s atKindField (length s) (λ r e. e .1) (λ tag start len e w.
+      cond-cases HeadBelow (kindAllowed t (getD s atKind 0))
       (λ _.
-      place-cases HeadBelow Id s 4 (length s) (λ r e. e .1) (λ tag start len e w.
-      place-cases HeadBelow Status s 11 (length s) (λ r e. e .1) (λ tag start len e w.
-      cond-cases HeadBelow (statusAllowed (getD s 3 0) (getD s 14 0) (getD s 15 0)) (λ _. tt) (λ _. omega arith))))
+      place-cases HeadBelow Id s atIdField (length s) (λ r e. e .1) (λ tag start len e w.
+      place-cases HeadBelow Status s atStatusField (length s) (λ r e. e .1) (λ tag start len e w.
+      cond-cases HeadBelow (statusAllowed (getD s atKind 0) (getD s atStatus 0) (getD s atIndex 0)) (λ _. tt) (λ _. omega arith))))
       (λ _. omega arith))
 
   abbrev ReadingEight : Reading → Type 0
@@ -245,20 +245,20 @@ module _ (t : Takes) (s : List ℕ) where
   unfolding readMessage
   reading-eight = go (headOf t s) refl head-below
     where
-      ends : (kind id status index : ℕ) → headOf t s ≡ Head.Found kind id status index → (x : Bindings) → EndsEight s kind 16 16 x
+      ends : (kind id status index : ℕ) → headOf t s ≡ Head.Found kind id status index → (x : Bindings) → EndsEight s kind mostBindings headSize x
           → ReadingEight (withBindings kind id status index x)
       ends kind id status index q (ended r) v =
           λ e. record { kind = kind; id = id; status = status; index = index; head = q; sixteen = v e .0; fits = v e .1 }
       ends kind id status index q (all bs) v = tt
 
       go : (h : Head) → headOf t s ≡ h → HeadBelow h
-          → ReadingEight (headThen h (λ kind id status index. withBindings kind id status index (bindingsFrom kind s 16 16)))
+          → ReadingEight (headThen h (λ kind id status index. withBindings kind id status index (bindingsFrom kind s mostBindings headSize)))
       go (Head.Refused r) q w = λ e. absurd (omega arith)
-      go (Head.Found kind id status index) q w = ends kind id status index q (bindingsFrom kind s 16 16) (bindings-end s kind 16 16)
+      go (Head.Found kind id status index) q w = ends kind id status index q (bindingsFrom kind s mostBindings headSize) (bindings-end s kind mostBindings headSize)
 
   eight-read : (at : ℕ) → Seventeenth t s at → readMessage t s ≡ refused (refusal 8 at)
   unfolding readMessage
-  eight-read at w = rw (w .head, eight-ends s (w .kind) 16 16 at (w .sixteen) (w .fits))
+  eight-read at w = rw (w .head, eight-ends s (w .kind) mostBindings headSize at (w .sixteen) (w .fits))
 
 pub eight-exactly : EightExactly
 eight-exactly t s at = (λ e. subst (ReadingEight t s) e (reading-eight t s) refl, eight-read t s at)

@@ -8,15 +8,14 @@ use borrow.Author.Tests.{le-leb, le-ltb, eqb-true}
 use lib.Dec.{leb}
 use lib.ListN.{length, getD, drop, length-take}
 use Rattle.octets.specs.Numbers.{beOctets}
-use Rattle.message.specs.declared.form.Place.the-variants.{Bind, Name}
+use Rattle.message.specs.declared.form.Role.the-variants.{Bind, Name}
 use Rattle.message.specs.declared.form.Checked.{Checked}
 use Rattle.message.specs.declared.request.Binding.{Binding}
 use Rattle.message.specs.declared.request.Head.{Head}
-use Rattle.message.specs.declared.request.Step.{Step}
-use Rattle.message.specs.Form.{checkedAt, refusal}
-use Rattle.message.specs.Request.{answersToo, kindAllowed, checkedThen, headOf, contentIn, contentPlace, bindingIn, bindingAt, Bindings, ended, all, prepend, stepThen, seventeenth, bindingsFrom, message, withBindings, headThen, readMessage}
-use Rattle.message.specs.Answer.{Bound, headOctets, messageOctets, mostOctets}
-use Rattle.message.specs.Theorems.{boundAt}
+use Rattle.message.specs.declared.request.BindingRead.{BindingRead}
+use Rattle.message.specs.Form.{checkedAt, refusal, atKind, headSize, mostBindings}
+use Rattle.message.specs.Request.{answersToo, kindAllowed, checkedThen, headOf, contentIn, contentRole, bindingIn, bindingAt, Bindings, ended, all, prepend, bindingThen, seventeenth, bindingsFrom, message, withBindings, headThen, readMessage}
+use Rattle.message.specs.Answer.{Bound, headOctets, messageOctets, mostOctets, boundAt}
 use Rattle.message.proofs.FormLaws.{clash, cond-cases}
 use Rattle.datagram.specs.Writing.{nameWritten, responseIn, responseAt, responsesFrom, responseHead, readResponse, datagramOctets, sent, sentBy, toDatagram}
 use Rattle.datagram.proofs.SendLaws.{checked-cases}
@@ -28,35 +27,35 @@ use Rattle.shortest.proofs.Theorems.{Formed, formed-reads, Canonical, c
 module _ (s : List ℕ) where
   -- ## One binding
 
-  abbrev Named : ℕ → Step → Type 0
-  Named name (Step.Refused r) = Unit {0}
-  Named name (Step.Bound b next) = b .name ≡ name
+  abbrev Named : ℕ → BindingRead → Type 0
+  Named name (BindingRead.Refused r) = Unit {0}
+  Named name (BindingRead.Bound b next) = b .name ≡ name
 
   content-named : (end name size : ℕ) → Named name (contentIn 2 s end name size)
   unfolding contentIn
   content-named end name size =
-      checked-cases (Named name) (contentPlace 2) s (name + size) end (λ r e. tt) (λ tag start len e. cond-cases (Named name) (leb end (start + len)) (λ t. refl) (λ t. tt))
+      checked-cases (Named name) (contentRole 2) s (name + size) end (λ r e. tt) (λ tag start len e. cond-cases (Named name) (leb end (start + len)) (λ t. refl) (λ t. tt))
 
   -- where the form reads a binding whose name has a counterpart, writing reads the same
-  abbrev StepSame : (wrote reads : Step) → Type 0
-  StepSame wrote (Step.Refused r) = Unit {0}
-  StepSame wrote (Step.Bound b next) = nameWritten s (b .name) ≡ true → wrote ≡ Step.Bound b next
+  abbrev StepSame : (wrote reads : BindingRead) → Type 0
+  StepSame wrote (BindingRead.Refused r) = Unit {0}
+  StepSame wrote (BindingRead.Bound b next) = nameWritten s (b .name) ≡ true → wrote ≡ BindingRead.Bound b next
 
-  judged-same : (name : ℕ) (k stop : Step) → Named name k → StepSame (cond (nameWritten s name) k stop) k
-  judged-same name (Step.Refused r) stop e = tt
-  judged-same name (Step.Bound b next) stop e = λ h. rw (← e, h)
+  judged-same : (name : ℕ) (k stop : BindingRead) → Named name k → StepSame (cond (nameWritten s name) k stop) k
+  judged-same name (BindingRead.Refused r) stop e = tt
+  judged-same name (BindingRead.Bound b next) stop e = λ h. rw (← e, h)
 
   name-same : (end : ℕ) (c : Checked)
-      → StepSame (checkedThen c Step.Refused (λ tag start len. cond (nameWritten s start) (contentIn 2 s end start len) (Step.Refused (refusal 19 0))))
-      (checkedThen c Step.Refused (λ tag start len. contentIn 2 s end start len))
+      → StepSame (checkedThen c BindingRead.Refused (λ tag start len. cond (nameWritten s start) (contentIn 2 s end start len) (BindingRead.Refused (refusal 19 0))))
+      (checkedThen c BindingRead.Refused (λ tag start len. contentIn 2 s end start len))
   name-same end (Checked.Refused r) = tt
-  name-same end (Checked.Found tag start len) = judged-same start (contentIn 2 s end start len) (Step.Refused (refusal 19 0)) (content-named end start len)
+  name-same end (Checked.Found tag start len) = judged-same start (contentIn 2 s end start len) (BindingRead.Refused (refusal 19 0)) (content-named end start len)
 
   step-same : (at : ℕ) → StepSame (responseAt s at) (bindingAt 2 s at)
   unfolding responseAt bindingAt responseIn bindingIn
   step-same at = go (checkedAt Bind s at (length s))
     where
-      go : (c : Checked) → StepSame (checkedThen c Step.Refused (λ tag start len. responseIn s start (start + len))) (checkedThen c Step.Refused (λ tag start len. bindingIn 2 s start (start + len)))
+      go : (c : Checked) → StepSame (checkedThen c BindingRead.Refused (λ tag start len. responseIn s start (start + len))) (checkedThen c BindingRead.Refused (λ tag start len. bindingIn 2 s start (start + len)))
       go (Checked.Refused r) = tt
       go (Checked.Found tag start len) = name-same (start + len) (checkedAt Name s start (start + len))
 
@@ -70,13 +69,13 @@ module _ (s : List ℕ) where
   Same wrote (ended r) = Unit {0}
   Same wrote (all bs) = AllWritten bs → wrote ≡ all bs
 
-  more-same : (wrote reads : Step) (go other : ℕ → Bindings) → StepSame wrote reads → ((next : ℕ) → Same (go next) (other next)) → Same (stepThen wrote go) (stepThen reads other)
-  more-same wrote (Step.Refused r) go other w f = tt
-  more-same wrote (Step.Bound b next) go other w f = prepended (other next) (f next)
+  more-same : (wrote reads : BindingRead) (go other : ℕ → Bindings) → StepSame wrote reads → ((next : ℕ) → Same (go next) (other next)) → Same (bindingThen wrote go) (bindingThen reads other)
+  more-same wrote (BindingRead.Refused r) go other w f = tt
+  more-same wrote (BindingRead.Bound b next) go other w f = prepended (other next) (f next)
     where
-      prepended : (x : Bindings) → Same (go next) x → Same (stepThen wrote go) (prepend b x)
+      prepended : (x : Bindings) → Same (go next) x → Same (bindingThen wrote go) (prepend b x)
       prepended (ended r) v = tt
-      prepended (all bs) v = λ h. ap (λ (k : Step). stepThen k go) (w (h .0)) ∙ ap (prepend b) (v (h .1))
+      prepended (all bs) v = λ h. ap (λ (k : BindingRead). bindingThen k go) (w (h .0)) ∙ ap (prepend b) (v (h .1))
 
   bindings-same : (left at : ℕ) → Same (responsesFrom s left at) (bindingsFrom 2 s left at)
   unfolding responsesFrom bindingsFrom
@@ -87,33 +86,33 @@ module _ (s : List ℕ) where
       go false = tt
   bindings-same (suc left) at = go (leb (length s) at) (more-same (responseAt s at) (bindingAt 2 s at) (responsesFrom s left) (bindingsFrom 2 s left) (step-same at) (bindings-same left))
     where
-      go : (t : Bool) → Same (stepThen (responseAt s at) (responsesFrom s left)) (stepThen (bindingAt 2 s at) (bindingsFrom 2 s left))
-          → Same (cond t (all []) (stepThen (responseAt s at) (responsesFrom s left))) (cond t (all []) (stepThen (bindingAt 2 s at) (bindingsFrom 2 s left)))
+      go : (t : Bool) → Same (bindingThen (responseAt s at) (responsesFrom s left)) (bindingThen (bindingAt 2 s at) (bindingsFrom 2 s left))
+          → Same (cond t (all []) (bindingThen (responseAt s at) (responsesFrom s left))) (cond t (all []) (bindingThen (bindingAt 2 s at) (bindingsFrom 2 s left)))
       go true q = λ h. refl
       go false q = q
 
   -- ## The whole
 
-  head-same : getD s 3 0 ≡ 2 → responseHead s ≡ headOf answersToo s
+  head-same : getD s atKind 0 ≡ 2 → responseHead s ≡ headOf answersToo s
   unfolding responseHead headOf kindAllowed
   head-same e = rw e
 
-  response-same : (id status index : ℕ) (rs : List Binding) → getD s 3 0 ≡ 2 → readMessage answersToo s ≡ message 2 id status index rs → AllWritten rs → readResponse s ≡ message 2 id status index rs
+  response-same : (id status index : ℕ) (rs : List Binding) → getD s atKind 0 ≡ 2 → readMessage answersToo s ≡ message 2 id status index rs → AllWritten rs → readResponse s ≡ message 2 id status index rs
   unfolding readMessage readResponse
   response-same id status index rs two e w =
-      ap (λ (h : Head). headThen h (λ kind id status index. withBindings kind id status index (responsesFrom s 16 16))) (head-same two) ∙ go (headOf answersToo s) e
+      ap (λ (h : Head). headThen h (λ kind id status index. withBindings kind id status index (responsesFrom s mostBindings headSize))) (head-same two) ∙ go (headOf answersToo s) e
     where
-      ends : (k i t x : ℕ) (bs : Bindings) → bindingsFrom k s 16 16 ≡ bs → withBindings k i t x bs ≡ message 2 id status index rs → withBindings k i t x (responsesFrom s 16 16) ≡ message 2 id status index rs
+      ends : (k i t x : ℕ) (bs : Bindings) → bindingsFrom k s 16 16 ≡ bs → withBindings k i t x bs ≡ message 2 id status index rs → withBindings k i t x (responsesFrom s mostBindings headSize) ≡ message 2 id status index rs
       ends k i t x (ended r) f q = clash (cc)
       ends k i t x (all ts) f q =
           let a : k ≡ 2 = cc in
           let r : ts ≡ rs = cc in
           let p : bindingsFrom 2 s 16 16 ≡ all rs = ap (λ (j : ℕ). bindingsFrom j s 16 16) (sym a) ∙ f ∙ ap all r in
-          let v : responsesFrom s 16 16 ≡ all rs = subst (Same (responsesFrom s 16 16)) p (bindings-same 16 16) w in
+          let v : responsesFrom s mostBindings headSize ≡ all rs = subst (Same (responsesFrom s mostBindings headSize)) p (bindings-same 16 16) w in
           ap (withBindings k i t x) v ∙ ap (message k i t x) (sym r) ∙ q
 
       go : (h : Head) → headThen h (λ kind id status index. withBindings kind id status index (bindingsFrom kind s 16 16)) ≡ message 2 id status index rs
-          → headThen h (λ kind id status index. withBindings kind id status index (responsesFrom s 16 16)) ≡ message 2 id status index rs
+          → headThen h (λ kind id status index. withBindings kind id status index (responsesFrom s mostBindings headSize)) ≡ message 2 id status index rs
       go (Head.Refused r) q = clash (cc)
       go (Head.Found k i t x) q = ends k i t x (bindingsFrom k s 16 16) refl q
 
@@ -123,9 +122,9 @@ module _ (s : List ℕ) where
       let long : 8 ≤ b .size = omega (arith, w .0 .carried .long, length-take (b .size) (drop (b .name) s)) in
       (sym (written-own s (b .name) (b .size) long) ∙ w .0 .written, all-written bs (w .1))
 
-kind-at : (m : List ℕ) (kind id status index : ℕ) (bs : List Bound) → m ≡ messageOctets kind id status index bs → getD m 3 0 ≡ kind
+kind-at : (m : List ℕ) (kind id status index : ℕ) (bs : List Bound) → m ≡ messageOctets kind id status index bs → getD m atKind 0 ≡ kind
 unfolding messageOctets headOctets beOctets
-kind-at m kind id status index bs e = ap (λ (u : List ℕ). getD u 3 0) e
+kind-at m kind id status index bs e = ap (λ (u : List ℕ). getD u atKind 0) e
 
 -- what writing gives of a response in its parts
 response-written : (room x m : List ℕ) (id status index : ℕ) (bs : List Bound) → Formed true m 2 id status index bs → mostOctets ≤ length room → length m ≤ mostOctets
@@ -141,7 +140,7 @@ response-written room x m id status index bs f long fits =
 pub shortest-is-written : ShortestIsWritten
 shortest-is-written room m x d long two w =
     let c : Canonical true m x d = canonical true m x d (w .taken) in
-    let k : c .kind ≡ 2 = sym (kind-at m (c .kind) (c .id) (c .status) (c .index) (c .bs) (c .formed .is)) ∙ eqb-true (getD m 3 0) 2 two in
+    let k : c .kind ≡ 2 = sym (kind-at m (c .kind) (c .id) (c .status) (c .index) (c .bs) (c .formed .is)) ∙ eqb-true (getD m atKind 0) 2 two in
     written (c .kind) (c .id) (c .status) (c .index) (c .bs) k (c .formed) (c .fits) (shortest-is true m x d w c)
     ∙ rw (le-leb (length d) mostOctets (c .short))
   where

@@ -15,8 +15,8 @@ use Rattle.octets.proofs.NumberLaws.{Octets, beOctets-beAt}
 use Rattle.names.specs.SubIds.{nameOctets, Fits}
 use Rattle.names.proofs.SubIdLaws.{subids-nameOctets}
 use Rattle.message.specs.Form.{tagAllowed}
-use Rattle.message.specs.Request.{contentPlace}
-use Rattle.message.specs.declared.form.Place.the-variants.{Null, Value, Answered}
+use Rattle.message.specs.Request.{contentRole}
+use Rattle.message.specs.declared.form.Role.the-variants.{Null, Value, Answered}
 use Rattle.message.proofs.FormLaws.{clash}
 use Rattle.datagram.specs.Ber.{fewest, sign, five, four, integer32, unsigned32, unsigned8, isNumber, endsFrom, nameWhole, numbersFrom, firstOf, firstTwo, subIds, allBelow, nameFits, contentTag, contentJudged, contentOctets}
 use Rattle.datagram.specs.Reading.{statusJudged}
@@ -263,8 +263,8 @@ differ : {A : Type 0} → false ≡ true → A
 differ e = clash (cc)
 
 -- no place allows the tag 0
-never : (kind : ℕ) → tagAllowed (contentPlace kind) 0 ≡ false
-unfolding tagAllowed contentPlace
+never : (kind : ℕ) → tagAllowed (contentRole kind) 0 ≡ false
+unfolding tagAllowed contentRole
 never kind = go (eqb kind 3) (eqb kind 2)
   where
     go : (a b : Bool) → tagAllowed (cond a Value (cond b Answered Null)) 0 ≡ false
@@ -273,7 +273,7 @@ never kind = go (eqb kind 3) (eqb kind 2)
     go false false = refl
 
 -- the tag of a content that a place allows
-pub tag-inverse : (kind tag : ℕ) → tagAllowed (contentPlace kind) (contentTag tag) ≡ true → berTag (contentTag tag) ≡ tag
+pub tag-inverse : (kind tag : ℕ) → tagAllowed (contentRole kind) (contentTag tag) ≡ true → berTag (contentTag tag) ≡ tag
 unfolding contentTag berTag
 tag-inverse kind tag =
     pick P 0x05 tag (λ a. refl)
@@ -287,4 +287,4 @@ tag-inverse kind tag =
     (λ n7 a. differ (sym (never kind) ∙ (rw (ne-eqb tag 0x05 n0, ne-eqb tag 0x02 n1, ne-eqb tag 0x04 n2, ne-eqb tag 0x42 n3, ne-eqb tag 0x41 n4, ne-eqb tag 0x80 n5, ne-eqb tag 0x81 n6, ne-eqb tag 0x82 n7) at a))))))))))
   where
     P : ℕ → Type 0
-    P t = tagAllowed (contentPlace kind) (contentTag t) ≡ true → berTag (contentTag t) ≡ t
+    P t = tagAllowed (contentRole kind) (contentTag t) ≡ true → berTag (contentTag t) ≡ t

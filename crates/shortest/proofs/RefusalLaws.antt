@@ -11,7 +11,7 @@ use Rattle.octets.specs.Parts.{part}
 use Rattle.message.specs.declared.form.Field.{Field}
 use Rattle.message.specs.declared.form.Field.the-variants.{Cut, Whole}
 use Rattle.message.specs.Form.{tagAllowed}
-use Rattle.message.specs.Request.{contentPlace}
+use Rattle.message.specs.Request.{contentRole}
 use Rattle.message.proofs.FormLaws.{cond-cases}
 use Rattle.datagram.specs.declared.ber.Found.{Found}
 use Rattle.datagram.specs.declared.ber.Found.the-variants.{Refused, At}
@@ -103,7 +103,7 @@ module _ (s : List ℕ) where
       (λ name size. cond-cases StepSure (nameWhole (part s name size))
       (λ w. cond-cases StepSure (nameFits (part s name size))
       (λ x. field-sure StepSure (fieldAt s (name + size) (start + len)) (λ n h. h)
-      (λ tag content clen. cond-cases StepSure (tagAllowed (contentPlace kind) (contentTag tag))
+      (λ tag content clen. cond-cases StepSure (tagAllowed (contentRole kind) (contentTag tag))
       (λ y. cond-cases StepSure (eqb (contentJudged (contentTag tag) (part s content clen)) 0)
       (λ z. cond-cases StepSure (leb (start + len) (content + clen)) (λ u. tt) (λ u. omega arith))
       (λ z. positive (contentJudged (contentTag tag) (part s content clen)) z))

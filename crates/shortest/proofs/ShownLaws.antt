@@ -17,7 +17,7 @@ use Rattle.message.specs.declared.form.Field.{Field}
 use Rattle.message.specs.declared.form.Field.the-variants.{Cut, Whole}
 use Rattle.message.specs.declared.request.Binding.{Binding}
 use Rattle.message.specs.Form.{tagAllowed}
-use Rattle.message.specs.Request.{contentPlace}
+use Rattle.message.specs.Request.{contentRole}
 use Rattle.message.specs.Answer.{Bound}
 use Rattle.message.proofs.FormLaws.{clash, cond-cases}
 use Rattle.datagram.specs.declared.ber.Found.{Found}
@@ -109,7 +109,7 @@ module _ (s : List ℕ) (o : Octets s) where
   -- the two fields of a binding, in its own
   binding-whole : (kind at end start len name size tag content clen : ℕ) → end ≤ length s → start + len ≤ end → fieldAt s at end ≡ Whole 0x30 start len → fieldAt s start (start + len) ≡ Whole 0x06 name size
       → nameWhole (part s name size) ≡ true → nameFits (part s name size) ≡ true → fieldAt s (name + size) (start + len) ≡ Whole tag content clen
-      → tagAllowed (contentPlace kind) (contentTag tag) ≡ true → contentJudged (contentTag tag) (part s content clen) ≡ 0 → content + clen ≡ start + len
+      → tagAllowed (contentRole kind) (contentTag tag) ≡ true → contentJudged (contentTag tag) (part s content clen) ≡ 0 → content + clen ≡ start + len
       → Shown s at (start + len)
       (berOctets 0x30
       (berOctets 0x06 (nameBer (nameOctets (subIds (part s name size))))
@@ -138,7 +138,7 @@ module _ (s : List ℕ) (o : Octets s) where
       (λ w. cond-cases (StepShown at end) (nameFits (part s name size))
       (λ x. field-cases (StepShown at end) (fieldAt s (name + size) (start + len)) (λ n. tt)
       (λ tag content clen g. let (t, c, d) = field-told s (name + size) (start + len) refl g in
-      cond-cases (StepShown at end) (tagAllowed (contentPlace kind) (contentTag tag))
+      cond-cases (StepShown at end) (tagAllowed (contentRole kind) (contentTag tag))
       (λ y. cond-cases (StepShown at end) (eqb (contentJudged (contentTag tag) (part s content clen)) 0)
       (λ z. cond-cases (StepShown at end) (leb (start + len) (content + clen))
       (λ u. (

@@ -11,11 +11,11 @@ use Rattle.octets.specs.Numbers.{beOctets}
 use Rattle.octets.specs.Parts.{part, patch}
 use Rattle.octets.proofs.NumberLaws.{Octets}
 use Rattle.names.specs.SubIds.{subids}
+use Rattle.message.specs.Form.{atStatus, atIndex}
 use Rattle.message.specs.declared.request.Binding.{Binding}
 use Rattle.message.specs.Request as request
 use Rattle.message.specs.Request.{kindAllowed, statusAllowed}
-use Rattle.message.specs.Answer.{Bound, headOctets, messageOctets, mostOctets}
-use Rattle.message.specs.Theorems.{boundAt}
+use Rattle.message.specs.Answer.{Bound, headOctets, messageOctets, mostOctets, boundAt}
 use Rattle.message.proofs.FormLaws.{cond-cases}
 use Rattle.datagram.specs.Ber.{fewest}
 use Rattle.datagram.specs.Reading.{fromDatagram}
@@ -116,8 +116,8 @@ octets-datagram x id status index bs o h k w =
 status-octets : (m : List ℕ) (kind id status index : ℕ) (bs : List Bound) → Octets m → m ≡ messageOctets kind id status index bs → (status < 256) × (index < 256)
 unfolding messageOctets headOctets beOctets
 status-octets m kind id status index bs o e =
-    let a : getD m 14 0 ≡ status = ap (λ (u : List ℕ). getD u 14 0) e in
-    let b : getD m 15 0 ≡ index = ap (λ (u : List ℕ). getD u 15 0) e in
+    let a : getD m atStatus 0 ≡ status = ap (λ (u : List ℕ). getD u atStatus 0) e in
+    let b : getD m atIndex 0 ≡ index = ap (λ (u : List ℕ). getD u atIndex 0) e in
     (omega (arith, o 14), omega (arith, o 15))
 
 -- what was written is some datagram of a response that was read

@@ -6,13 +6,14 @@ use mathlib.Core.List.{List}
 use lib.Dec.{eqb}
 use lib.ListN.{length, getD, take}
 use Rattle.octets.specs.Parts.{part, patch}
+use Rattle.message.specs.Form.{atKind}
 use Rattle.message.specs.Answer.{mostOctets}
 use Rattle.datagram.specs.Reading.{fromDatagram}
 use Rattle.datagram.specs.Writing.{toDatagram}
 
 -- the message's kind is that of a response
 abbrev pub isResponse : List ℕ → Bool
-isResponse m = eqb (getD m 3 0) 2
+isResponse m = eqb (getD m atKind 0) 2
 
 -- d is a datagram of the message m and the community x: octets from which the reading hands over m, into any room that is long enough, and x stands at the community's place.
 -- `answers` is the reading: the one of requests, or the one that takes responses too.

@@ -9,7 +9,7 @@ use lib.Dec.{leb}
 use Rattle.names.specs.Order.{below, relation}
 use Rattle.names.proofs.OrderLaws.{irrefl, trans}
 use Rattle.message.specs.Request.{bindingAt}
-use Rattle.message.specs.declared.request.Step.{Step}
+use Rattle.message.specs.declared.request.BindingRead.{BindingRead}
 use Rattle.message.proofs.FormLaws.{clash}
 use Rattle.walks.specs.Walk.{Item, item, nameIn, Walk, faulty, whole, before, itemThen, notAscending, walkFrom}
 use Rattle.walks.specs.Merge.{onlyReference, onlyDevice, differing, Merged, merged, listed, merge, contrastOf}
@@ -80,10 +80,10 @@ item-up last x (whole ys) xs f h e =
     let u : Up (x .name) ys = f ys refl in
     rw z (above-all last (x .name) (names ys) h u, u)
 
-step-up : (s : List ℕ) (last : List ℕ) (at : ℕ) (k : Step) (go : List ℕ → ℕ → Walk) (xs : List Item) → ((last′ : List ℕ) (at′ : ℕ) (ys : List Item) → go last′ at′ ≡ whole ys → Up last′ ys)
+step-up : (s : List ℕ) (last : List ℕ) (at : ℕ) (k : BindingRead) (go : List ℕ → ℕ → Walk) (xs : List Item) → ((last′ : List ℕ) (at′ : ℕ) (ys : List Item) → go last′ at′ ≡ whole ys → Up last′ ys)
     → itemThen s last at k go ≡ whole xs → Up last xs
-step-up s last at (Step.Refused r) go xs f e = clash (cc)
-step-up s last at (Step.Bound b next) go xs f e = test (below last (nameIn s b)) refl e
+step-up s last at (BindingRead.Refused r) go xs f e = clash (cc)
+step-up s last at (BindingRead.Bound b next) go xs f e = test (below last (nameIn s b)) refl e
   where
     test : (t : Bool) → below last (nameIn s b) ≡ t → cond t (before (item s at b) (go (nameIn s b) next)) (faulty notAscending) ≡ whole xs → Up last xs
     test true h q = item-up last (item s at b) (go (nameIn s b) next) xs (f (nameIn s b) next) h q

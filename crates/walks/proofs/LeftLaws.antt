@@ -12,7 +12,7 @@ use lib.Dec.{ltb}
 use Rattle.names.specs.Order.{below}
 use Rattle.message.specs.Request.{bindingAt}
 use Rattle.message.specs.declared.request.Binding.{Binding}
-use Rattle.message.specs.declared.request.Step.{Step}
+use Rattle.message.specs.declared.request.BindingRead.{BindingRead}
 use Rattle.message.proofs.BindingLaws.{Placed}
 use Rattle.message.proofs.FormLaws.{clash}
 use Rattle.walks.specs.declared.walk.Judged.{Judged}
@@ -47,13 +47,13 @@ pub record Next (s : List ℕ) (at : ℕ) (xs : List Item) : Type 0 where
   pub binding : Binding
   pub next : ℕ
   pub tail : List Item
-  pub bound : bindingAt 3 s at ≡ Step.Bound binding next
+  pub bound : bindingAt 3 s at ≡ BindingRead.Bound binding next
   pub head : xs ≡ item s at binding ∷ tail
   pub onward : Left s next tail
   pub place : Placed 3 s at binding next
 
 module _ {s : List ℕ} {at : ℕ} {xs : List Item} (w : Left s at xs) (h : at < length s) where
-  binding-left : (b : Binding) (next : ℕ) → bindingAt 3 s at ≡ Step.Bound b next → (r : Walk) → walkFrom s (w .left - 1) (nameIn s b) next ≡ r
+  binding-left : (b : Binding) (next : ℕ) → bindingAt 3 s at ≡ BindingRead.Bound b next → (r : Walk) → walkFrom s (w .left - 1) (nameIn s b) next ≡ r
       → before (item s at b) r ≡ whole xs → Next s at xs
   binding-left b next e (faulty r) p q = clash (cc)
   binding-left b next e (whole ys) p q =
@@ -68,9 +68,9 @@ module _ {s : List ℕ} {at : ℕ} {xs : List Item} (w : Left s at xs) (h : at <
         place = v;
       }
 
-  step-left : (k : Step) → bindingAt 3 s at ≡ k → itemThen s (w .last) at k (walkFrom s (w .left - 1)) ≡ whole xs → Next s at xs
-  step-left (Step.Refused r) e p = clash (cc)
-  step-left (Step.Bound b next) e p = go (below (w .last) (nameIn s b)) p
+  step-left : (k : BindingRead) → bindingAt 3 s at ≡ k → itemThen s (w .last) at k (walkFrom s (w .left - 1)) ≡ whole xs → Next s at xs
+  step-left (BindingRead.Refused r) e p = clash (cc)
+  step-left (BindingRead.Bound b next) e p = go (below (w .last) (nameIn s b)) p
     where
       go : (t : Bool) → cond t (before (item s at b) (walkFrom s (w .left - 1) (nameIn s b) next)) (faulty notAscending) ≡ whole xs → Next s at xs
       go true q = binding-left b next e (walkFrom s (w .left - 1) (nameIn s b) next) refl q

@@ -22,7 +22,7 @@ use Rattle.names.proofs.SubIdLaws.{subids-step}
 use Rattle.names.proofs.OrderLaws.{below-nil}
 use Rattle.names.proofs.TableLaws.{place-is, place-only}
 use Rattle.message.specs.Request.{bindingAt}
-use Rattle.message.specs.declared.request.Step.{Step}
+use Rattle.message.specs.declared.request.BindingRead.{BindingRead}
 use Rattle.message.proofs.BindingLaws.{Placed}
 use Rattle.message.proofs.FormLaws.{clash}
 use Rattle.walks.specs.Walk.{Item, item, nameIn, Walk, faulty, whole, before, itemThen, notAscending, walkFrom, walkOf}
@@ -40,10 +40,10 @@ unfolding walkOf
 walks-ascend s xs e = walk-up s (length s) [] 0 xs e .1
 
 -- the bound on the number of bindings does not matter
-step-more : (s last : List ℕ) (at : ℕ) (f g : List ℕ → ℕ → Walk) (k : Step) → bindingAt 3 s at ≡ k → ((last′ : List ℕ) (next : ℕ) → at + 3 ≤ next → f last′ next ≡ g last′ next)
+step-more : (s last : List ℕ) (at : ℕ) (f g : List ℕ → ℕ → Walk) (k : BindingRead) → bindingAt 3 s at ≡ k → ((last′ : List ℕ) (next : ℕ) → at + 3 ≤ next → f last′ next ≡ g last′ next)
     → itemThen s last at k f ≡ itemThen s last at k g
-step-more s last at f g (Step.Refused r) e h = refl
-step-more s last at f g (Step.Bound b next) e h =
+step-more s last at f g (BindingRead.Refused r) e h = refl
+step-more s last at f g (BindingRead.Bound b next) e h =
     ap (λ (w : Walk). cond (below last (nameIn s b)) (before (item s at b) w) (faulty notAscending)) (h (nameIn s b) next (stands {k = bindingAt 3 s at} refl e .goes))
 
 pub read-whole : ReadWhole

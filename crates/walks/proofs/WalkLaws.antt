@@ -12,14 +12,14 @@ use Rattle.names.specs.Order.{below}
 use Rattle.message.specs.Request.{bindingAt}
 use Rattle.message.specs.declared.form.Refusal.{Refusal}
 use Rattle.message.specs.declared.request.Binding.{Binding}
-use Rattle.message.specs.declared.request.Step.{Step}
-use Rattle.message.proofs.BindingLaws.{Placed, StepTells, binding-tells}
+use Rattle.message.specs.declared.request.BindingRead.{BindingRead}
+use Rattle.message.proofs.BindingLaws.{Placed, BindingTells, binding-tells}
 use Rattle.walks.specs.declared.walk.Judged.{Judged}
 use Rattle.walks.specs.Walk.{Item, item, nameIn, Walk, faulty, whole, before, itemThen, notAscending, walkFrom, walkOf, judged}
 
 -- an answer of `binding_at` that is known by two equations
-pub stands : {s : List ℕ} {at : ℕ} {b : Binding} {next : ℕ} {k : Step} → k ≡ bindingAt 3 s at → k ≡ Step.Bound b next → Placed 3 s at b next
-stands {s} {at} e h = subst (StepTells 3 s at) (sym e ∙ h) (binding-tells 3 s at)
+pub stands : {s : List ℕ} {at : ℕ} {b : Binding} {next : ℕ} {k : BindingRead} → k ≡ bindingAt 3 s at → k ≡ BindingRead.Bound b next → Placed 3 s at b next
+stands {s} {at} e h = subst (BindingTells 3 s at) (sym e ∙ h) (binding-tells 3 s at)
 
 module _ (s : List ℕ) where
   pub from-end : (left : ℕ) (last : List ℕ) (at : ℕ) → length s ≤ at → walkFrom s left last at ≡ whole []
@@ -49,20 +49,20 @@ module _ {s last : List ℕ} {at : ℕ} (w : Sofar s last at) where
   pub sofar-all : length s ≤ at → Judged.Whole ≡ judged (walkOf s)
   sofar-all h = sym (ap judged (from-end s (w .left) last at h)) ∙ w .rest
 
-  module _ (h : at < length s) {k : Step} (e : k ≡ bindingAt 3 s at) where
+  module _ (h : at < length s) {k : BindingRead} (e : k ≡ bindingAt 3 s at) where
     turn : judged (itemThen s last at k (walkFrom s (w .left - 1))) ≡ judged (walkOf s)
     turn =
         let l : w .left ≡ suc (w .left - 1) = omega (arith, w .enough) in
         let p : walkFrom s (w .left) last at ≡ itemThen s last at k (walkFrom s (w .left - 1)) = rw (e, ← from-step s (w .left - 1) last at h, ← l) in
         sym (ap judged p) ∙ w .rest
 
-    pub sofar-refused : {r : Refusal} → k ≡ Step.Refused r → Judged.Refused r ≡ judged (walkOf s)
+    pub sofar-refused : {r : Refusal} → k ≡ BindingRead.Refused r → Judged.Refused r ≡ judged (walkOf s)
     sofar-refused f = rw f at turn
 
-    pub sofar-falls : {b : Binding} {next : ℕ} → k ≡ Step.Bound b next → below last (nameIn s b) ≡ false → Judged.Refused notAscending ≡ judged (walkOf s)
+    pub sofar-falls : {b : Binding} {next : ℕ} → k ≡ BindingRead.Bound b next → below last (nameIn s b) ≡ false → Judged.Refused notAscending ≡ judged (walkOf s)
     sofar-falls f g = rw (f, g) at turn
 
-    pub sofar-more : {b : Binding} {next : ℕ} → k ≡ Step.Bound b next → below last (nameIn s b) ≡ true → Sofar s (nameIn s b) next
+    pub sofar-more : {b : Binding} {next : ℕ} → k ≡ BindingRead.Bound b next → below last (nameIn s b) ≡ true → Sofar s (nameIn s b) next
     sofar-more {b} {next} f g =
         let t : judged (before (item s at b) (walkFrom s (w .left - 1) (nameIn s b) next)) ≡ judged (walkOf s) = rw (f, g) at turn in
         record {

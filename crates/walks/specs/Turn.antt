@@ -6,7 +6,7 @@ use lib.ListN.{length}
 use lib.Dec.{eqb}
 use Rattle.message.specs.Request.{bindingAt}
 use Rattle.message.specs.declared.request.Binding.{Binding}
-use Rattle.message.specs.declared.request.Step.{Step}
+use Rattle.message.specs.declared.request.BindingRead.{BindingRead}
 use Rattle.names.specs.Order.{relation, byRelation}
 use Rattle.walks.specs.Walk.{Item, item, Walk, faulty, whole}
 use Rattle.walks.specs.Merge.{contrastOf, twenty}
@@ -25,9 +25,9 @@ turnOf x next y other =
     (turned 2 0 0 0 0 (y .at) (x .at) other)
 
 -- a refusal ends the comparison; in a walk that was read there is none
-abbrev pub boundThen : Step → Turn → (Binding → ℕ → Turn) → Turn
-boundThen (Step.Refused r) stop go = stop
-boundThen (Step.Bound b next) stop go = go b next
+abbrev pub boundThen : BindingRead → Turn → (Binding → ℕ → Turn) → Turn
+boundThen (BindingRead.Refused r) stop go = stop
+boundThen (BindingRead.Bound b next) stop go = go b next
 
 abbrev pub noTurn : List ℕ → List ℕ → Turn
 noTurn s t = turned 0 0 0 0 0 0 (length s) (length t)

@@ -11,7 +11,7 @@ use super::contrast::NO_ENTRY;
 use super::contrast::contrasts;
 use super::walk::SET;
 use message::request::Binding;
-use message::request::Step;
+use message::request::BindingRead;
 use message::request::binding_at;
 use names::order::Relation;
 use names::order::relate;
@@ -110,10 +110,10 @@ pub fn turn_at(s: &[u8], i: usize, t: &[u8], j: usize) -> Turn
     ensures { λ r. ⌜ r ≡ turnAt (now (s .entry)) i (now (t .entry)) j ⌝ }
 {
     match binding_at(SET, s, i) {
-        Step::Refused(_) => no_turn(s, t),
-        Step::Bound { binding, next } => match binding_at(SET, t, j) {
-            Step::Refused(_) => no_turn(s, t),
-            Step::Bound {
+        BindingRead::Refused(_) => no_turn(s, t),
+        BindingRead::Bound { binding, next } => match binding_at(SET, t, j) {
+            BindingRead::Refused(_) => no_turn(s, t),
+            BindingRead::Bound {
                 binding: second,
                 next: other,
             } => turn_of(s, i, binding, next, t, j, second, other),

@@ -7,7 +7,7 @@ ghost use Rattle.names.specs.SubIds.{subids};
 ghost use Rattle.names.specs.Order.{below};
 ghost use Rattle.walks.specs.Walk.{walkOf, judged};
 use message::form::Refusal;
-use message::request::Step;
+use message::request::BindingRead;
 use message::request::binding_at;
 use names::order::Relation;
 use names::order::relate;
@@ -46,10 +46,10 @@ pub fn judge(s: &[u8]) -> Judged
     let mut size: usize = 0;
     while at < s.len() {
         match binding_at(SET, s, at) {
-            Step::Refused(r) => {
+            BindingRead::Refused(r) => {
                 return Judged::Refused(r);
             }
-            Step::Bound { binding, next } => {
+            BindingRead::Bound { binding, next } => {
                 if !ascends(s, name, size, binding.name, binding.size) {
                     return Judged::Refused(Refusal {
                         number: NOT_ASCENDING,
