@@ -25,6 +25,9 @@ struct agent {
  * These are numbers that snmpd holds itself: it needs to ask nothing of the system for them. */
 struct datagram snmp_request(enum rb_kind kind, unsigned bindings);
 
+/* A request in the library's message form as an SNMPv2c datagram, with the community public. */
+struct datagram as_datagram(const struct octets *request);
+
 /* True for an SNMPv2c response without a fault. */
 bool snmp_answered(const struct datagram *answer);
 

@@ -9,6 +9,7 @@
 #include "agent.h"
 #include "batches.h"
 #include "calls.h"
+#include "datagrams.h"
 #include "figures.h"
 #include "stack.h"
 #include "tally.h"
@@ -307,6 +308,12 @@ static void print_rules(void)
            PARTS_OF_SNMPD * slowest <= snmpd ? "PASS" : "NOT ", slowest / snmpd, PARTS_OF_SNMPD);
 }
 
+/* What snmpd's own process takes for a get of so many bindings, or 0. */
+static double own_time(size_t errand)
+{
+    return errands[errand].agent == NULL ? 0 : median(errands[errand].processor, ROUNDS);
+}
+
 /* The calls of one workload on 64 ports with full tables, and its title. */
 static int play_one(size_t number)
 {
@@ -357,6 +364,7 @@ int main(int argc, char **argv)
     print_table();
     print_errands();
     print_depth();
+    print_datagrams(bridges, BRIDGES, (struct own_times){own_time(SNMP_GET_1), own_time(SNMP_GET_16)});
     print_walks(&bridges[BRIDGES - 1]);
     print_rules();
     print_tallies();

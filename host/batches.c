@@ -173,6 +173,9 @@ int main(int argc, char **argv)
     struct submission submission;
     int status = STATUS_UNREADABLE;
 
+    if (argc == 2 && strcmp(argv[1], "--help") == 0) {
+        return fputs(usage, stdout) >= 0 && fflush(stdout) == 0 ? STATUS_ANY_ORDER : STATUS_LOST;
+    }
     if (argc < 2 || (argv[1][0] == '-' && argv[1][1] != '\0')) {
         fputs(usage, stderr);
         return STATUS_UNREADABLE;

@@ -6,10 +6,13 @@
 #include <stdio.h>
 #include <string.h>
 
-/* Cuts HOST:PORT at its last colon. */
+enum { PORT_MAX = 65535 };
+
+/* Cuts HOST:PORT at its last colon. getaddrinfo would take a port over 65535 by its last 16 bits. */
 static bool cut(const char *words, char host[PEER_WORDS], const char **port)
 {
     const char *colon = strrchr(words, ':');
+    uint64_t number;
     size_t length;
 
     if (colon == NULL || (size_t)(colon - words) >= PEER_WORDS) {
@@ -23,7 +26,7 @@ static bool cut(const char *words, char host[PEER_WORDS], const char **port)
     memcpy(host, words, length);
     host[length] = '\0';
     *port = colon + 1;
-    return length > 0 && **port != '\0';
+    return length > 0 && text_number((struct text){*port, *port + strlen(*port)}, PORT_MAX, &number);
 }
 
 bool peer_find(struct peer *peer, const char *words, struct complaint *why)
@@ -34,7 +37,7 @@ bool peer_find(struct peer *peer, const char *words, struct complaint *why)
     int error;
 
     if (!cut(words, host, &port)) {
-        return complain(why, "an address is written HOST:PORT: '%s'", words);
+        return complain(why, "an address is written HOST:PORT, with a port up to %d: '%s'", PORT_MAX, words);
     }
     error = getaddrinfo(host, port, &wanted, &found);
     if (error != 0) {

@@ -114,6 +114,9 @@ int main(int argc, char **argv)
         .ports = "4", .address = "00:11:22:33:44:55", .edition = "1", .community = "public"};
     struct complaint why;
 
+    if (argc == 2 && strcmp(argv[1], "--help") == 0) {
+        return fputs(usage, stdout) >= 0 && fflush(stdout) == 0 ? STATUS_ENDED : STATUS_NOT_KEPT;
+    }
     for (int i = 1; i < argc; i += 2) {
         const char **place = argument(&arguments, argv[i]);
 

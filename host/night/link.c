@@ -3,6 +3,7 @@
 
 #include <errno.h>
 #include <poll.h>
+#include <stdlib.h>
 #include <string.h>
 #include <time.h>
 #include <unistd.h>
@@ -21,6 +22,9 @@ bool link_open(struct link *link, const char *words, struct complaint *why)
 {
     if (!peer_find(&link->peer, words, why)) {
         return false;
+    }
+    if (strtoul(strrchr(words, ':') + 1, NULL, 10) == 0) {
+        return complain(why, "a switch has a port from 1 on: '%s'", words);
     }
     link->socket = socket(link->peer.address.ss_family, SOCK_DGRAM, 0);
     return link->socket >= 0 || complain(why, "no socket: %s", strerror(errno));

@@ -148,9 +148,30 @@ static bool read_number(const char *words, const char *what, uint64_t most, uint
     return false;
 }
 
+/* True for HH:MM, from 00:00 to 23:59. */
 static bool is_clock(const char *words)
 {
-    return words == NULL || (strlen(words) == 5 && words[2] == ':' && strspn(words, "0123456789:") == 5);
+    uint64_t hour, minute;
+
+    return words == NULL || (strlen(words) == 5 && words[2] == ':' && text_number((struct text){words, words + 2}, 23, &hour) &&
+                             text_number((struct text){words + 3, words + 5}, 59, &minute));
+}
+
+/* Says which argument is missing or no clock time. */
+static bool is_complete(const struct arguments *arguments)
+{
+    const char *missing = arguments->submission == NULL ? "a submission"
+                          : arguments->peer == NULL     ? "--switch"
+                          : arguments->journal == NULL  ? "--journal"
+                                                        : NULL;
+
+    if (missing != NULL) {
+        fprintf(stderr, "night: %s is missing\n", missing);
+    } else if (!is_clock(arguments->until)) {
+        fprintf(stderr, "night: --until is no time from 00:00 to 23:59: %s\n", arguments->until);
+        return false;
+    }
+    return missing == NULL;
 }
 
 static int run_night(struct arguments *arguments)
@@ -162,8 +183,7 @@ static int run_night(struct arguments *arguments)
     uint64_t timeout, retries, wait;
     int status = STATUS_UNREADABLE;
 
-    if (arguments->submission == NULL || arguments->peer == NULL || arguments->journal == NULL ||
-        !is_clock(arguments->until) || !read_number(arguments->timeout, "--timeout", 3600000, &timeout) ||
+    if (!is_complete(arguments) || !read_number(arguments->timeout, "--timeout", 3600000, &timeout) ||
         !read_number(arguments->retries, "--retries", 100, &retries) ||
         !read_number(arguments->wait, "--wait", 86400, &wait)) {
         fputs(usage, stderr);
@@ -237,6 +257,9 @@ int main(int argc, char **argv)
     void (*print)(FILE * out, const struct record *record) = NULL;
     bool run = argc > 1 && strcmp(argv[1], "run") == 0;
 
+    if (argc == 2 && strcmp(argv[1], "--help") == 0) {
+        return fputs(usage, stdout) >= 0 && fflush(stdout) == 0 ? STATUS_PASSED : STATUS_UNWRITABLE;
+    }
     signal(SIGXFSZ, SIG_IGN); /* a journal that may not grow is an error of writing */
     signal(SIGPIPE, SIG_IGN);
     for (int i = 2; i < argc; i++) {

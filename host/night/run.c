@@ -20,6 +20,8 @@
 #define RUNS_MAX 2047u          /* ids stay below 2^31 */
 #define BETWEEN 0.25            /* seconds from one update of the terminal to the next */
 
+enum { MINUTES_OF_A_DAY = 1440, MINUTES_LATE = 360 };
+
 struct night {
     struct player player; /* first, so that the witness finds the night */
     struct record *record;
@@ -224,7 +226,7 @@ static bool make_fresh(const struct night *night)
     return run_command(night->wishes->fresh);
 }
 
-/* True once the clock shows HH:MM, in the twelve hours after it. */
+/* True once the clock shows HH:MM, in the six hours after it: a night may have 18 hours, and one that is resumed too late starts nothing. */
 static bool is_late(const char *until)
 {
     time_t seconds = time(NULL);
@@ -232,7 +234,7 @@ static bool is_late(const char *until)
     int hour = atoi(until), minute = atoi(until + 3);
 
     localtime_r(&seconds, &clock);
-    return ((clock.tm_hour - hour) * 60 + clock.tm_min - minute + 1440) % 1440 < 720;
+    return ((clock.tm_hour - hour) * 60 + clock.tm_min - minute + MINUTES_OF_A_DAY) % MINUTES_OF_A_DAY < MINUTES_LATE;
 }
 
 /* The clock time in so many seconds. */
@@ -336,6 +338,7 @@ static bool finish(struct night *night, const char *stop, struct complaint *why)
     if (stop == NULL) {
         return record_event(night->record, RB_END, 0, "", why);
     }
+    fprintf(stderr, "night: stopped: %s\n", stop);
     return journal_append(journal, "stop", 0, stop, why) && journal_sync(journal, why);
 }
 
