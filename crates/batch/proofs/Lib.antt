@@ -5,7 +5,7 @@ pub mod FrameLaws
 pub mod OrderLaws
 pub mod AcceptLaws
 pub mod TurnLaws
-pub mod TargetLaws
+pub mod GroupLaws
 pub mod ReadingLaws
 pub mod RoomLaws
 pub mod SearchLaws

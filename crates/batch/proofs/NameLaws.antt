@@ -109,13 +109,13 @@ separate-of d a b e t j p =
     ∙ e)))
     (λ q. q)
 
-keys-targets : (t : ℕ) (m : List Judged) → keysAt t (map groupNamed m) ≡ indices t m
+keys-groups : (t : ℕ) (m : List Judged) → keysAt t (map groupNamed m) ≡ indices t m
 unfolding keysAt indices
-keys-targets t [] = refl
-keys-targets t (b ∷ m) = ap (onto t (groupNamed b)) (keys-targets t m)
+keys-groups t [] = refl
+keys-groups t (b ∷ m) = ap (onto t (groupNamed b)) (keys-groups t m)
 
 pub keys-named : (d : Model) (t : Table) (m : List ℕ) → keysAt (firstColumn t) (groupsOf (d .ports) m) ≡ namedIn t (namedBy d m)
-keys-named d t m = ap (keysAt (firstColumn t)) (groups-judged d m) ∙ keys-targets (firstColumn t) (namedBy d m)
+keys-named d t m = ap (keysAt (firstColumn t)) (groups-judged d m) ∙ keys-groups (firstColumn t) (namedBy d m)
 
 pub keys-append : (t : ℕ) (gs hs : List (Option Group)) → keysAt t (gs ++ hs) ≡ keysAt t gs ++ keysAt t hs
 unfolding keysAt

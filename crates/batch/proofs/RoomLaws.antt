@@ -12,6 +12,7 @@ use Rattle.block.specs.Image.{contentOf}
 use Rattle.block.specs.Valid.{legal}
 use Rattle.block.specs.Lookup.{lookup}
 use Rattle.names.specs.declared.Shape.{Shape}
+use Rattle.names.specs.Table.{objectCount}
 use Rattle.block.proofs.RoundLaws.{legal-valid}
 use Rattle.answer.specs.Get.{elem}
 use Rattle.answer.specs.Writes.{present}
@@ -28,15 +29,15 @@ use Rattle.console.specs.Batch.{octetsAt, Means}
 use Rattle.console.specs.declared.frames.Span.{Span}
 use Rattle.console.specs.declared.frames.Framed.{Framed}
 use Rattle.batch.specs.Names.{Group, groupsOf, sameGroup, among, common, keysAt, allNamed}
-use Rattle.batch.specs.Found.{meant, noTarget, targets, Few, namedFrom, SetsFrom, tableFor, absentEach}
-use Rattle.batch.specs.declared.groups.Target.{Target}
-use Rattle.batch.specs.declared.groups.Targets.{Targets}
+use Rattle.batch.specs.Found.{meant, noGroup, groups, Few, namedFrom, SetsFrom, tableFor, absentEach}
+use Rattle.batch.specs.declared.groups.NamedGroup.{NamedGroup}
+use Rattle.batch.specs.declared.groups.NamedGroups.{NamedGroups}
 use Rattle.batch.specs.declared.room.Grows.{Grows}
 use Rattle.batch.specs.declared.room.Grows.the-variants.{Vlan, Static}
 use Rattle.batch.proofs.NameLaws.{common-of, keys-append}
 use Rattle.batch.proofs.PairLaws.{Named, Meets, NoneMeet}
 use Rattle.batch.proofs.TurnLaws.{named-turn, named-end}
-use Rattle.batch.proofs.TargetLaws.{drop-turn, drop-end}
+use Rattle.batch.proofs.GroupLaws.{drop-turn, drop-end}
 
 module _ (b : List ℕ) (ok : legal b ≡ true) {t u : Grows} (q : t ≡ u) where
   few : (u : Grows) → length (rowsOf (tableFor u) (contentOf b)) ≤ 256
@@ -61,14 +62,14 @@ elem-among t k [] = refl
 elem-among t k (none ∷ gs) = elem-among t k gs
 elem-among t k (some g ∷ gs) = by-bool (eqb t (g .0)) (λ e. rw (e, elem-among t k gs)) (λ e. rw (e, elem-among t k gs))
 
-column-low : (t : Table) → firstColumn t ≡ 35 → ⊥
+column-low : (t : Table) → firstColumn t ≡ objectCount → ⊥
 column-low vlan e = omega arith
 column-low static e = omega arith
 
 -- one binding's share in the absent rows
-module _ {R : Type 0} (es : List (ℕ × R)) (t : Table) (all : List Target) (n : ℕ) (enough : n ≤ length all) (i : ℕ) (h : i < n) where
-  abbrev a : Target
-  a = getD all i noTarget
+module _ {R : Type 0} (es : List (ℕ × R)) (t : Table) (all : List NamedGroup) (n : ℕ) (enough : n ≤ length all) (i : ℕ) (h : i < n) where
+  abbrev a : NamedGroup
+  a = getD all i noGroup
 
   abbrev from : ℕ → List (Option Group)
   from j = drop j (map meant (take n all))
@@ -78,17 +79,17 @@ module _ {R : Type 0} (es : List (ℕ × R)) (t : Table) (all : List Target) (n 
 
   turn : count i ≡ absent es (onto (firstColumn t) (meant a) (keysAt (firstColumn t) (from (i + 1))))
   unfolding keysAt
-  turn = ap (λ (l : List (Option Group)). absent es (keysAt (firstColumn t) l)) (drop-turn meant all n enough i noTarget h)
+  turn = ap (λ (l : List (Option Group)). absent es (keysAt (firstColumn t) l)) (drop-turn meant all n enough i noGroup h)
 
   pub other-table : {c : ℕ} → c ≡ firstColumn t → (a .table ≡ c → ⊥) → count i ≡ cond false 1 0 + count (i + 1)
   other-table e f =
-      turn ∙ by-bool (eqb (a .table) 35) (λ q. rw q (omega arith))
+      turn ∙ by-bool (eqb (a .table) objectCount) (λ q. rw q (omega arith))
       (λ q. rw (q, ne-eqb (firstColumn t) (a .table) (λ z. f (sym z ∙ sym e))) (omega arith))
 
   meant-is : {c : ℕ} → c ≡ firstColumn t → a .table ≡ c → meant a ≡ some (firstColumn t, a .key)
   meant-is e f =
       let z : a .table ≡ firstColumn t = f ∙ e in
-      rw (ne-eqb (a .table) 35 (λ q. column-low t (sym z ∙ q))) (ap (λ (k : ℕ). some (k, a .key)) z)
+      rw (ne-eqb (a .table) objectCount (λ q. column-low t (sym z ∙ q))) (ap (λ (k : ℕ). some (k, a .key)) z)
 
   in-table : {c : ℕ} → c ≡ firstColumn t → a .table ≡ c
       → count i ≡ cond (among (meant a) (from (i + 1)) || present (lookup (a .key) es)) 0 1 + count (i + 1)
@@ -158,7 +159,7 @@ absent-each es t (gs ∷ gss) h =
         (λ p. absurd (f 0 (omega arith) (common-of (t, k) gs hs (sym (elem-among t k gs) ∙ e) (sym (elem-among t k hs) ∙ p))))
         (λ p. p)
 
-pub absent-end : {R : Type 0} (es : List (ℕ × R)) (t : ℕ) (of : Targets) → Few of → (i : ℕ) → of .count ≤ i → absent es (keysAt t (drop i (targets of))) ≡ 0
+pub absent-end : {R : Type 0} (es : List (ℕ × R)) (t : ℕ) (of : NamedGroups) → Few of → (i : ℕ) → of .count ≤ i → absent es (keysAt t (drop i (groups of))) ≡ 0
 unfolding keysAt absent
 absent-end es t of f i h =
     ap (λ (l : List (Option Group)). absent es (keysAt t l)) (drop-end meant (of .all) (of .count) (omega (arith, f)) i h)

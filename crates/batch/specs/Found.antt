@@ -8,6 +8,7 @@ use lib.Dec.{eqb}
 use lib.ListN.{length, take, drop}
 use Rattle.octets.specs.Parts.{part}
 use Rattle.names.specs.SubIds.{subids}
+use Rattle.names.specs.Table.{objectCount}
 use Rattle.message.specs.Request.{refused, readRequest}
 use Rattle.message.specs.declared.request.Binding.{Binding}
 use Rattle.block.specs.declared.tables.Table.{Table}
@@ -19,26 +20,26 @@ use Rattle.answer.specs.Judge.{groupOf}
 use Rattle.batch.specs.Names.{Group, groupsOf, keysAt}
 use Rattle.batch.specs.Check.{refusedWith, readSet, readThen, eachRead}
 use Rattle.batch.specs.declared.RbBatch.{RbBatch}
-use Rattle.batch.specs.declared.groups.Target.{Target}
-use Rattle.batch.specs.declared.groups.Targets.{Targets}
+use Rattle.batch.specs.declared.groups.NamedGroup.{NamedGroup}
+use Rattle.batch.specs.declared.groups.NamedGroups.{NamedGroups}
 use Rattle.batch.specs.declared.reads.SetRead.{SetRead}
 use Rattle.batch.specs.declared.reads.SetRead.the-variants.{Taken, Refused}
 use Rattle.batch.specs.declared.room.Grows.{Grows}
 use Rattle.batch.specs.declared.room.Grows.the-variants.{Vlan, Static}
 
 -- the row or scalar of a place and a key; past the object table there is none
-abbrev pub meant : Target → Option Group
-meant t = cond (eqb (t .table) 35) none (some (t .table, t .key))
+abbrev pub meant : NamedGroup → Option Group
+meant t = cond (eqb (t .table) objectCount) none (some (t .table, t .key))
 
--- what stands past an array of targets
-abbrev pub noTarget : Target
-noTarget = record { table = 0; key = 0 }
+-- what stands past an array of groups
+abbrev pub noGroup : NamedGroup
+noGroup = record { table = 0; key = 0 }
 
 -- what a message names
-abbrev pub targets : Targets → List (Option Group)
-targets r = map meant (take (r .count) (r .all))
+abbrev pub groups : NamedGroups → List (Option Group)
+groups r = map meant (take (r .count) (r .all))
 
-abbrev pub Few : Targets → Type 0
+abbrev pub Few : NamedGroups → Type 0
 Few r = (r .count ≤ 16) × (length (r .all) ≡ 16)
 
 -- what a binding of the message m names

@@ -7,9 +7,9 @@ ghost use Rattle.answer.specs.Terms.{isSet};
 ghost use Rattle.console.specs.Batch.{octetsAt, Within, Means};
 ghost use Rattle.console.specs.declared.frames.Framed.the-variants.{Whole};
 ghost use Rattle.batch.specs.Names.{groupsOf};
-ghost use Rattle.batch.specs.Found.{targets, Few, Goes};
-use super::groups::Targets;
-use super::groups::targets_of;
+ghost use Rattle.batch.specs.Found.{groups, Few, Goes};
+use super::groups::NamedGroups;
+use super::groups::groups_in;
 use console::frames::Framed;
 use console::frames::Span;
 use console::frames::frame_at;
@@ -26,11 +26,11 @@ pub fn message_at(batch: &[u8], at: usize) -> Span
 }
 
 // What the message at a place names.
-pub fn targets_at(ports: u32, batch: &[u8], s: Span) -> Targets
+pub fn groups_at(ports: u32, batch: &[u8], s: Span) -> NamedGroups
     requires { ⌜ (ports ≤ 64) × Within (now batch) s × (isSet (readRequest (octetsAt (now batch) s)) ≡ true) ⌝ }
-    ensures { λ r. ⌜ (targets r ≡ groupsOf ports (octetsAt (now (batch .entry)) s)) × Few r ⌝ }
+    ensures { λ r. ⌜ (groups r ≡ groupsOf ports (octetsAt (now (batch .entry)) s)) × Few r ⌝ }
 {
     let at = s.start;
     let end = at + s.len;
-    targets_of(ports, &batch[at..end])
+    groups_in(ports, &batch[at..end])
 }

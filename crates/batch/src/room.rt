@@ -12,10 +12,10 @@ ghost use Rattle.block.specs.Tables.{rowsOf, most};
 ghost use Rattle.answer.specs.Tables.{firstColumn, shapeOf};
 ghost use Rattle.answer.specs.Terms.{absent};
 ghost use Rattle.batch.specs.Names.{keysAt};
-ghost use Rattle.batch.specs.Found.{targets, Few, tableFor, absentEach, SetsFrom, namedFrom};
+ghost use Rattle.batch.specs.Found.{groups, Few, tableFor, absentEach, SetsFrom, namedFrom};
+use super::frames::groups_at;
 use super::frames::message_at;
-use super::frames::targets_at;
-use super::groups::Targets;
+use super::groups::NamedGroups;
 use super::groups::is_among;
 use block::layout::MOST_ROWS;
 use block::reads::static_count;
@@ -71,9 +71,9 @@ fn is_there(block: &[u8], t: Grows, key: u64) -> bool
 }
 
 // Whether binding i of a message names an absent row of a table that no binding behind it names.
-fn is_new(block: &[u8], t: Grows, of: Targets, i: usize) -> bool
+fn is_new(block: &[u8], t: Grows, of: NamedGroups, i: usize) -> bool
     requires { ⌜ (legal (now block) ≡ true) × Few of × (i < of .count) ⌝ }
-    ensures { λ r. ⌜ absent (rowsOf (tableFor t) (contentOf (now (block .entry)))) (keysAt (firstColumn (tableFor t)) (drop i (targets of))) ≡ cond r 1 0 + absent (rowsOf (tableFor t) (contentOf (now (block .entry)))) (keysAt (firstColumn (tableFor t)) (drop (i + 1) (targets of))) ⌝ }
+    ensures { λ r. ⌜ absent (rowsOf (tableFor t) (contentOf (now (block .entry)))) (keysAt (firstColumn (tableFor t)) (drop i (groups of))) ≡ cond r 1 0 + absent (rowsOf (tableFor t) (contentOf (now (block .entry)))) (keysAt (firstColumn (tableFor t)) (drop (i + 1) (groups of))) ⌝ }
 {
     let all = of.all;
     let a = all[i];
@@ -88,9 +88,9 @@ fn is_new(block: &[u8], t: Grows, of: Targets, i: usize) -> bool
 }
 
 // How many absent rows of a table a message names, each once.
-fn absent_in(block: &[u8], t: Grows, of: Targets) -> usize
+fn absent_in(block: &[u8], t: Grows, of: NamedGroups) -> usize
     requires { ⌜ (legal (now block) ≡ true) × Few of ⌝ }
-    ensures { λ r. ⌜ (r ≡ absent (rowsOf (tableFor t) (contentOf (now (block .entry)))) (keysAt (firstColumn (tableFor t)) (targets of))) × (r ≤ 16) ⌝ }
+    ensures { λ r. ⌜ (r ≡ absent (rowsOf (tableFor t) (contentOf (now (block .entry)))) (keysAt (firstColumn (tableFor t)) (groups of))) × (r ≤ 16) ⌝ }
 {
     let count = of.count;
     let mut n: usize = 0;
@@ -114,7 +114,7 @@ fn needed(block: &[u8], t: Grows, ports: u32, batch: &[u8]) -> usize
     let mut i: usize = 1;
     while at < batch.len() {
         let s = message_at(batch, at);
-        n += absent_in(block, t, targets_at(ports, batch, s));
+        n += absent_in(block, t, groups_at(ports, batch, s));
         at = s.start + s.len;
         i += 1;
     }

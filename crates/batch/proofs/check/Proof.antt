@@ -90,8 +90,8 @@ returns-5 c =
     let q = c .before .before .before .before .before .before .before .first-pair in
     c .short-of2 .ensures ∙ call-static (a .block .now) (a .batch .now) l (r .ensures) (c .before .before .before .before .before .before .before .before .before .if2 .left) (p .result) (p .ensures) (q .result .first) (q .result .second) (q .ensures .0) (c .before .before .before .before .before .if3 .left) (c .before .before .before .before .is-short .ensures) (c .before .before .before .if4 .left) (c .before .before .is-short2 .ensures) (c .before .if5 .taken)
 
-short-of-requires-3 : tie.Need-short-of-requires-3
-short-of-requires-3 c κs = search needs
+accepted-requires : tie.Need-accepted-requires
+accepted-requires c κs = search needs
 
 returns-6 : tie.Need-returns-6
 returns-6 c =
@@ -100,7 +100,7 @@ returns-6 c =
     let r = c .before .before .before .before .before .before .before .before .before .before .before .first-refused in
     let p = c .before .before .before .before .before .before .before .before .ports in
     let q = c .before .before .before .before .before .before .before .first-pair in
-    c .short-of3 .ensures ∙ call-accepted (a .block .now) (a .batch .now) l (r .ensures) (c .before .before .before .before .before .before .before .before .before .if2 .left) (p .result) (p .ensures) (q .result .first) (q .result .second) (q .ensures .0) (c .before .before .before .before .before .if3 .left) (c .before .before .before .before .is-short .ensures) (c .before .before .before .if4 .left) (c .before .before .is-short2 .ensures) (c .before .if5 .left)
+    c .accepted .ensures ∙ call-accepted (a .block .now) (a .batch .now) l (r .ensures) (c .before .before .before .before .before .before .before .before .before .if2 .left) (p .result) (p .ensures) (q .result .first) (q .result .second) (q .ensures .0) (c .before .before .before .before .before .if3 .left) (c .before .before .before .before .is-short .ensures) (c .before .before .before .if4 .left) (c .before .before .is-short2 .ensures) (c .before .if5 .left)
 
 pub check-spec : {M : Type 1} → statement M
 check-spec =
@@ -123,5 +123,5 @@ check-spec =
     is-short-requires-2
     short-of-requires-2
     returns-5
-    short-of-requires-3
+    accepted-requires
     returns-6)

@@ -112,13 +112,13 @@ loop-again c =
       l .inv .2 ∙ read-taken b (l .at) (l .i) (c .before .before .before .before .before .before .before .before .before .before .loop-test .taken) (omega arith) f (c .before .before .before .before .before .before .s .given .1) w,
     )
 
-refused-requires-3 : tie.Need-refused-requires-3 Inv-loop μ-loop
-refused-requires-3 c κs = search needs
+accepted-requires : tie.Need-accepted-requires Inv-loop μ-loop
+accepted-requires c κs = search needs
 
 returns-4 : tie.Need-returns-4 Inv-loop μ-loop
 returns-4 c =
     let l = c .before .before .loop in
-    c .refused3 .ensures ∙ sym (l .inv .2 ∙ read-end (c .before .before .before .before .args .batch .now) (l .at) (l .i) (c .before .loop-test .left))
+    c .accepted .ensures ∙ sym (l .inv .2 ∙ read-end (c .before .before .before .before .args .batch .now) (l .at) (l .i) (c .before .loop-test .left))
 
 pub first-refused-spec : {M : Type 1} → statement M
 first-refused-spec =
@@ -148,5 +148,5 @@ first-refused-spec =
     add-i
     loop-less
     loop-again
-    refused-requires-3
+    accepted-requires
     returns-4)

@@ -1,19 +1,18 @@
--- What the code's targets say of the names of a message. Assumes nothing.
-use Prim.Native.Nat.{ℕ, zero, suc, _+_, _-_, _*_, _≤_, _<_}
+-- What the code's groups say of the names of a message. Assumes nothing.
+use Prim.Native.Nat.{ℕ, zero, suc, _+_, _-_, _≤_, _<_}
 use native.Mathlib.Omega.{arith}
 use native.Mathlib.Numerals.{add-one}
 use mathlib.Core.Path.{_≡_, refl, sym, ap, subst, _∙_}
-use mathlib.Core.Bool.{Bool, true, false, cond, _||_, _&&_, false≢true}
-use mathlib.Core.Option.{Option, none, some}
+use mathlib.Core.Bool.{Bool, true, false, _||_, false≢true}
+use mathlib.Core.Option.{Option, some}
 use mathlib.Core.List.{List, [], _∷_, _++_, map, map-append, append-assoc, append-nil}
-use lib.Dec.{eqb, ltb}
+use lib.Dec.{eqb}
 use lib.ListN.{length, take, drop, getD, set, length-map, length-set, drop-of-length-le}
 use lib.Seq.{length-take-le, drop-cons, take-suc-set, getD-take}
-use borrow.Author.Tests.{eq-eqb, ne-eqb, eqb-true, ltb-true, le-leb, lt-leb}
-use Rattle.octets.specs.Parts.{part, same}
-use Rattle.names.specs.SubIds.{subids}
-use Rattle.names.specs.Table.{objects, placeOf}
-use Rattle.names.specs.Groups.{tableFrom, tableOf}
+use borrow.Author.Tests.{eq-eqb, ne-eqb, eqb-true, le-leb, lt-leb}
+use Rattle.names.specs.Table.{objectCount}
+use Rattle.names.specs.Groups.{tableOf}
+use Rattle.names.proofs.GroupLaws.{table-below}
 use Rattle.message.specs.declared.form.Refusal.{Refusal}
 use Rattle.message.specs.declared.request.Head.{Head}
 use Rattle.message.specs.declared.request.Binding.{Binding}
@@ -21,13 +20,13 @@ use Rattle.message.specs.declared.request.BindingRead.{BindingRead}
 use Rattle.message.specs.Request.{requests, headOf, bindingAt, seventeenth, Bindings, ended, all, prepend, bindingsFrom, Reading, refused, message, readMessage, readRequest}
 use Rattle.message.proofs.FormLaws.{clash}
 use Rattle.message.proofs.BindingLaws.{Placed, binding-tells, BindingTells}
-use Rattle.answer.specs.Judge.{Asked, placed, grouped, groupOf}
+use Rattle.answer.specs.Judge.{Asked, groupOf}
 use Rattle.answer.specs.Terms.{askedIn, isSet}
 use Rattle.answer.specs.Respond.{askedAt}
 use Rattle.answer.proofs.RoomLaws.{by-bool}
 use Rattle.batch.specs.Names.{Group, groupsOf, sameGroup, among, common}
-use Rattle.batch.specs.Found.{meant, noTarget, groupAt}
-use Rattle.batch.specs.declared.groups.Target.{Target}
+use Rattle.batch.specs.Found.{meant, noGroup, groupAt}
+use Rattle.batch.specs.declared.groups.NamedGroup.{NamedGroup}
 
 -- a list of which the first n are taken and changed, from an index on
 module _ {A B : Type 0} (f : A → B) (xs : List A) (n : ℕ) (few : n ≤ length xs) where
@@ -48,27 +47,27 @@ module _ {A B : Type 0} (f : A → B) (xs : List A) (n : ℕ) (few : n ≤ lengt
   drop-end j h = drop-of-length-le (map f (take n xs)) {i = j} (omega (arith, taken-many))
 
 -- the same row or scalar
-pub same-none : (a b : Target) → a .table ≡ 35 → false ≡ sameGroup (meant a) (meant b)
-same-none a b e = rw (eq-eqb (a .table) 35 e) refl
+pub same-none : (a b : NamedGroup) → a .table ≡ objectCount → false ≡ sameGroup (meant a) (meant b)
+same-none a b e = rw (eq-eqb (a .table) objectCount e) refl
 
-pub same-not : (a b : Target) → (a .table ≡ 35 → ⊥) → (a .table ≡ b .table → ⊥) → false ≡ sameGroup (meant a) (meant b)
+pub same-not : (a b : NamedGroup) → (a .table ≡ objectCount → ⊥) → (a .table ≡ b .table → ⊥) → false ≡ sameGroup (meant a) (meant b)
 same-not a b e f =
-    by-bool (eqb (b .table) 35) (λ q. rw (ne-eqb (a .table) 35 e, q) refl) (λ q. rw (ne-eqb (a .table) 35 e, q, ne-eqb (a .table) (b .table) f) refl)
+    by-bool (eqb (b .table) objectCount) (λ q. rw (ne-eqb (a .table) objectCount e, q) refl) (λ q. rw (ne-eqb (a .table) objectCount e, q, ne-eqb (a .table) (b .table) f) refl)
 
-pub same-key : (a b : Target) → (a .table ≡ 35 → ⊥) → a .table ≡ b .table → eqb (a .key) (b .key) ≡ sameGroup (meant a) (meant b)
+pub same-key : (a b : NamedGroup) → (a .table ≡ objectCount → ⊥) → a .table ≡ b .table → eqb (a .key) (b .key) ≡ sameGroup (meant a) (meant b)
 same-key a b e f =
-    rw (ne-eqb (a .table) 35 e, ne-eqb (b .table) 35 (λ q. e (f ∙ q)), eq-eqb (a .table) (b .table) f) refl
+    rw (ne-eqb (a .table) objectCount e, ne-eqb (b .table) objectCount (λ q. e (f ∙ q)), eq-eqb (a .table) (b .table) f) refl
 
 -- turns of the loops
-module _ (all : List Target) (n : ℕ) (few : n ≤ length all) where
+module _ (all : List NamedGroup) (n : ℕ) (few : n ≤ length all) where
   abbrev groups : List (Option Group)
   groups = map meant (take n all)
 
-  among-turn : (g : Option Group) (j : ℕ) → j < n → among g (drop j groups) ≡ (sameGroup g (meant (getD all j noTarget)) || among g (drop (j + 1) groups))
+  among-turn : (g : Option Group) (j : ℕ) → j < n → among g (drop j groups) ≡ (sameGroup g (meant (getD all j noGroup)) || among g (drop (j + 1) groups))
   unfolding among
-  among-turn g j h = ap (among g) (drop-turn meant all n few j noTarget h)
+  among-turn g j h = ap (among g) (drop-turn meant all n few j noGroup h)
 
-  module _ (g : Option Group) (j : ℕ) {r : Bool} (h : j < n) (e : r ≡ sameGroup g (meant (getD all j noTarget))) where
+  module _ (g : Option Group) (j : ℕ) {r : Bool} (h : j < n) (e : r ≡ sameGroup g (meant (getD all j noGroup))) where
     among-so : (t : Bool) → r ≡ t → among g (drop j groups) ≡ (t || among g (drop (j + 1) groups))
     among-so t told = among-turn g j h ∙ ap (λ (u : Bool). u || among g (drop (j + 1) groups)) (sym e ∙ told)
 
@@ -82,11 +81,11 @@ module _ (all : List Target) (n : ℕ) (few : n ≤ length all) where
   unfolding among
   among-end g j h = ap (among g) (drop-end meant all n few j h)
 
-  common-turn : (hs : List (Option Group)) (i : ℕ) → i < n → common (drop i groups) hs ≡ (among (meant (getD all i noTarget)) hs || common (drop (i + 1) groups) hs)
+  common-turn : (hs : List (Option Group)) (i : ℕ) → i < n → common (drop i groups) hs ≡ (among (meant (getD all i noGroup)) hs || common (drop (i + 1) groups) hs)
   unfolding common
-  common-turn hs i h = ap (λ (l : List (Option Group)). common l hs) (drop-turn meant all n few i noTarget h)
+  common-turn hs i h = ap (λ (l : List (Option Group)). common l hs) (drop-turn meant all n few i noGroup h)
 
-  module _ (hs : List (Option Group)) (i : ℕ) {r : Bool} (h : i < n) (e : r ≡ among (meant (getD all i noTarget)) hs) where
+  module _ (hs : List (Option Group)) (i : ℕ) {r : Bool} (h : i < n) (e : r ≡ among (meant (getD all i noGroup)) hs) where
     common-so : (t : Bool) → r ≡ t → common (drop i groups) hs ≡ (t || common (drop (i + 1) groups) hs)
     common-so t told = common-turn hs i h ∙ ap (λ (u : Bool). u || common (drop (i + 1) groups) hs) (sym e ∙ told)
 
@@ -100,52 +99,9 @@ module _ (all : List Target) (n : ℕ) (few : n ≤ length all) where
   unfolding common
   common-end hs i h = ap (λ (l : List (Option Group)). common l hs) (drop-end meant all n few i h)
 
--- the tables of the objects
-abbrev upTo : ℕ → ℕ → List ℕ
-upTo i zero = []
-upTo i (suc n) = i ∷ upTo (suc i) n
-
-up-at : (f : ℕ → ℕ) (i n k : ℕ) → k < n → getD (map f (upTo i n)) k 0 ≡ f (i + k)
-up-at f i zero k h = absurd (omega arith)
-up-at f i (suc n) zero h = ap f (omega arith)
-up-at f i (suc n) (suc k) h = up-at f (suc i) n k (omega arith) ∙ ap f (omega arith)
-
-abbrev pub tables : List ℕ
-tables =
-    0 ∷ 1 ∷ 2 ∷ 3 ∷ 3 ∷ 5 ∷ 6 ∷ 6 ∷ 6 ∷ 9 ∷ 9 ∷ 9 ∷ 9 ∷ 13 ∷ 14 ∷ 14 ∷ 14 ∷ 14 ∷ 18 ∷ 18 ∷ 20 ∷ 21 ∷ 22 ∷ 23 ∷ 24 ∷ 25 ∷ 26 ∷ 27 ∷ 27 ∷ 27 ∷ 27 ∷ 27 ∷ 32 ∷ 32 ∷ 32
-    ∷ []
-
-tables-computed : tables ≡ map (λ i. tableOf i) (upTo 0 35)
-unfolding tableOf tableFrom objects same
-tables-computed = refl
-
-pub table-here : (i : ℕ) → i < 35 → getD tables i 0 ≡ tableOf i
-table-here i h = ap (λ (l : List ℕ). getD l i 0) tables-computed ∙ up-at (λ j. tableOf j) 0 35 i h ∙ ap (λ (j : ℕ). tableOf j) (omega arith)
-
-abbrev allBelow : ℕ → List ℕ → Bool
-allBelow m [] = true
-allBelow m (x ∷ xs) = ltb x m && allBelow m xs
-
-and-both : (a b : Bool) → (a && b) ≡ true → (a ≡ true) × (b ≡ true)
-and-both true b e = (refl, e)
-and-both false b e = absurd (false≢true e)
-
-below-at : (m : ℕ) (xs : List ℕ) → allBelow m xs ≡ true → (i : ℕ) → i < length xs → getD xs i 0 < m
-below-at m [] e i h = absurd (omega arith)
-below-at m (x ∷ xs) e zero h = ltb-true x m (and-both (ltb x m) (allBelow m xs) e .0)
-below-at m (x ∷ xs) e (suc i) h = below-at m xs (and-both (ltb x m) (allBelow m xs) e .1) i (omega arith)
-
-pub table-below : (i : ℕ) → i < 35 → getD tables i 0 < 35
-table-below i h = below-at 35 tables refl i (omega arith)
-
--- what the code finds for a name
-pub target-here : (i k t : ℕ) → t ≡ tableOf i → t < 35 → meant (record { table = t; key = k }) ≡ placed i (some k)
-target-here i k t e h = rw (ne-eqb t 35 (λ z. omega (arith, h, z))) (ap (λ (x : ℕ). some (x, k)) e)
-
--- a name's group, by the place that is found
-pub group-by : (n : ℕ) (name : List ℕ) (x : Option ℕ) → placeOf name ≡ x → groupOf n name ≡ grouped n name x
-unfolding groupOf
-group-by n name x e = ap (λ (o : Option ℕ). grouped n name o) e
+-- the row or scalar that the code finds for a name
+pub group-here : (i k : ℕ) {t : ℕ} → t ≡ tableOf i → i < objectCount → meant (record { table = t; key = k }) ≡ some (tableOf i, k)
+group-here i k {t} e h = rw (ne-eqb t objectCount (λ z. omega (arith, table-below i h, e, z))) (ap (λ (x : ℕ). some (x, k)) e)
 
 -- a set's groups, by its bindings
 pub record Bound (m : List ℕ) : Type 0 where
@@ -185,7 +141,7 @@ pub stands : {m : List ℕ} {at : ℕ} {b : Binding} {next : ℕ} {k : BindingRe
 stands {m} {at} e h = subst (BindingTells 3 m at) (sym e ∙ h) (binding-tells 3 m at)
 
 -- the first bindings are named, and the next one stands at `at`
-pub record Sofar (ports : ℕ) (m : List ℕ) (found : List Target) (count at : ℕ) : Type 0 where
+pub record Sofar (ports : ℕ) (m : List ℕ) (found : List NamedGroup) (count at : ℕ) : Type 0 where
   pub left : ℕ
   pub rest : List Binding
   pub long : length found ≡ 16
@@ -193,7 +149,7 @@ pub record Sofar (ports : ℕ) (m : List ℕ) (found : List Target) (count at : 
   pub reads : bindingsFrom 3 m left at ≡ all rest
   pub named : map meant (take count found) ++ map (groupAt ports m) rest ≡ groupsOf ports m
 
-pub sofar-none : (ports : ℕ) (m : List ℕ) (found : List Target) → length found ≡ 16 → isSet (readRequest m) ≡ true → Sofar ports m found 0 16
+pub sofar-none : (ports : ℕ) (m : List ℕ) (found : List NamedGroup) → length found ≡ 16 → isSet (readRequest m) ≡ true → Sofar ports m found 0 16
 sofar-none ports m found l e =
     let q : Bound m = set-bound m e in
     record { left = 16; rest = q .bindings; long = l; room = refl; reads = q .reads; named = sym (q .named ports) }
@@ -228,7 +184,7 @@ one-next m (suc left) at bs {b} {next} h q e =
     go (ended r) f g = clash (cc)
     go (all cs) f g = let z : b ∷ cs ≡ bs = cc in record { later = left; fewer = refl; behind = cs; splits = sym z; reads = f }
 
-module _ {ports : ℕ} {m : List ℕ} {found : List Target} {count at : ℕ} (w : Sofar ports m found count at) where
+module _ {ports : ℕ} {m : List ℕ} {found : List NamedGroup} {count at : ℕ} (w : Sofar ports m found count at) where
   pub sofar-all : length m ≤ at → (map meant (take count found) ≡ groupsOf ports m) × (count ≤ 16) × (length found ≡ 16)
   sofar-all h =
       let z : w .rest ≡ [] = none-left m (w .left) at (w .rest) h (w .reads) in (
@@ -248,7 +204,7 @@ module _ {ports : ℕ} {m : List ℕ} {found : List Target} {count at : ℕ} (w 
       pub sofar-low : count < 16
       sofar-low = omega (arith, w .room, after .fewer)
 
-      pub sofar-more : (t : Target) → meant t ≡ groupAt ports m b → Sofar ports m (set found count t) (count + 1) next
+      pub sofar-more : (t : NamedGroup) → meant t ≡ groupAt ports m b → Sofar ports m (set found count t) (count + 1) next
       sofar-more t p =
           let low : count < length found = omega (arith, sofar-low, w .long) in
           record {
