@@ -10,6 +10,8 @@
 #include <sys/wait.h>
 #include <unistd.h>
 
+#include "datagram.h"
+
 /* Tags of the basic encoding rules, as SNMP uses them. */
 enum {
     BER_INTEGER = 0x02,
@@ -19,12 +21,10 @@ enum {
     BER_SEQUENCE = 0x30,
     BER_GET = 0xA0,
     BER_GET_NEXT = 0xA1,
-    BER_RESPONSE = 0xA2,
-    BER_SET = 0xA3
+    BER_RESPONSE = 0xA2
 };
 
 static const char community[] = "public";
-enum { COMMUNITY_SIZE = sizeof community - 1, VERSION_SIZE = 3 };
 
 /* A message is written from its end to its start, since a length stands before what it counts. */
 struct writer {
@@ -96,7 +96,7 @@ struct datagram snmp_request(enum rb_kind kind, unsigned bindings)
     put_integer_before(&w, 1); /* request id */
     put_header_before(&w, kind == RB_GET ? BER_GET : BER_GET_NEXT, end);
     size_t community_end = w.start;
-    put_before(&w, community, COMMUNITY_SIZE);
+    put_before(&w, community, sizeof community - 1);
     put_header_before(&w, BER_STRING, community_end);
     put_integer_before(&w, 1); /* version: SNMPv2c */
     put_header_before(&w, BER_SEQUENCE, end);
@@ -113,19 +113,10 @@ static size_t header_octets(const uint8_t *field)
 
 struct datagram as_datagram(const struct octets *request)
 {
-    static const uint8_t tags[] = {[RB_GET] = BER_GET, [RB_GET_NEXT] = BER_GET_NEXT, [RB_SET] = BER_SET};
-    struct octets response = *request;
     struct datagram datagram;
-    uint8_t *at = datagram.octets;
-    rb_result result;
+    uint32_t number = request_datagram(request, 1, community, datagram.octets, &datagram.length);
 
-    response.at[KIND_AT] = RB_RESPONSE; /* a response has the same form; only its tag differs */
-    result = rb_to_datagram(response.at, response.count, (const uint8_t *)community, COMMUNITY_SIZE, datagram.octets, sizeof datagram.octets);
-    REQUIRE(result.number == 0, "a request is no datagram: %u", (unsigned)result.number);
-    datagram.length = result.count;
-    at += header_octets(at) + VERSION_SIZE;
-    at += header_octets(at) + COMMUNITY_SIZE;
-    *at = tags[request->at[KIND_AT]];
+    REQUIRE(number == RB_ANSWERED, "a request is no datagram: %u", (unsigned)number);
     return datagram;
 }
 

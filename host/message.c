@@ -29,7 +29,7 @@ void request_start(struct octets *request, uint8_t kind, uint32_t id)
 {
     memcpy(request->at, head, HEAD_SIZE);
     request->at[KIND_AT] = kind;
-    put_number(request->at + ID_AT, 4, id);
+    put_number(request->at + ID_AT, ID_SIZE, id);
     request->count = HEAD_SIZE;
 }
 
@@ -151,7 +151,7 @@ static bool is_head(const struct answer *message)
 
     memcpy(form, head, HEAD_SIZE);
     form[KIND_AT] = message->kind;
-    put_number(form + ID_AT, 4, message->id);
+    put_number(form + ID_AT, ID_SIZE, message->id);
     form[STATUS_AT] = message->status;
     form[INDEX_AT] = message->index;
     return memcmp(form, message->octets, HEAD_SIZE) == 0;
@@ -167,7 +167,7 @@ bool message_read(struct answer *message, const uint8_t *octets, size_t count)
     *message = (struct answer){.octets = octets,
                                .count = count,
                                .place = HEAD_SIZE,
-                               .id = get_number(octets + ID_AT, 4),
+                               .id = get_number(octets + ID_AT, ID_SIZE),
                                .kind = octets[KIND_AT],
                                .status = octets[STATUS_AT],
                                .index = octets[INDEX_AT]};
@@ -205,7 +205,7 @@ const char *answer_flaw(const struct answer *answer, const struct octets *reques
 {
     size_t bindings = request_bindings(request);
 
-    if (memcmp(answer->octets + ID_AT, request->at + ID_AT, 4) != 0) {
+    if (memcmp(answer->octets + ID_AT, request->at + ID_AT, ID_SIZE) != 0) {
         return "the answer has another request id";
     }
     if (answer->index > bindings || (answer->index == 0) != (answer->status <= RB_TOO_BIG)) {

@@ -10,6 +10,7 @@
 #define HEAD_SIZE 16u
 #define KIND_AT 3u
 #define ID_AT 7u
+#define ID_SIZE 4u
 #define STATUS_AT 14u
 #define INDEX_AT 15u
 

@@ -11,6 +11,7 @@
 
 #include "catalogue.h"
 #include "identity.h"
+#include "plan.h"
 #include "player.h"
 #include "stopping.h"
 #include "submission.h"
@@ -126,11 +127,27 @@ static int on_files(const struct submission *submission, enum task task)
     }
 }
 
+/* A submission is for a switch: whatever a switch cannot be asked makes it unreadable. Returns how many errors were told. */
+static size_t check_playable(const struct submission *submission)
+{
+    struct plan plan;
+    size_t errors;
+
+    if (submission->manifest.text == NULL) {
+        return 0;
+    }
+    errors = plan_make(&plan, submission, "public");
+    plan_free(&plan);
+    return errors;
+}
+
 static int with_files(const struct request *request)
 {
     struct submission submission;
     size_t errors = submission_read(&submission, request->files, request->count);
     int status = STATUS_UNREADABLE;
+
+    errors = errors > 0 ? errors : check_playable(&submission);
 
     if (errors > 0) {
         fprintf(stderr, "play: %zu errors, so nothing was played\n", errors);

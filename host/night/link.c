@@ -8,15 +8,10 @@
 #include <time.h>
 #include <unistd.h>
 
+#include "datagram.h"
 #include "message.h"
 
-#define KIND_AT 3u /* of our form: the kind, and the request id */
-#define ID_AT 7u
-#define ID_SIZE 4u
 #define DATAGRAM_MAX 65536
-
-/* PDU tags of RFC 3416. */
-enum { PDU_GET = 0xA0, PDU_GET_NEXT = 0xA1, PDU_SET = 0xA3 };
 
 bool link_open(struct link *link, const char *words, struct complaint *why)
 {
@@ -33,44 +28,6 @@ bool link_open(struct link *link, const char *words, struct complaint *why)
 void link_close(struct link *link)
 {
     close(link->socket);
-}
-
-static uint8_t pdu_tag(uint8_t kind)
-{
-    return kind == RB_SET ? PDU_SET : kind == RB_GET_NEXT ? PDU_GET_NEXT : PDU_GET;
-}
-
-/* The size of a BER header: a tag, and a length of one octet or of as many more as its first says. */
-static size_t header_size(const uint8_t *at)
-{
-    return (at[1] & 0x80u) == 0 ? 2 : 2 + (at[1] & 0x7Fu);
-}
-
-/* Where the PDU's tag stands: after the version, which has three octets, and the community. */
-static size_t pdu_at(const uint8_t *datagram, size_t community)
-{
-    size_t at = header_size(datagram) + 3;
-
-    return at + header_size(datagram + at) + community;
-}
-
-uint32_t link_datagram(const struct octets *request, uint32_t id, const char *community, uint8_t *out, size_t *count)
-{
-    static uint8_t message[OCTETS_MAX];
-    size_t length = strlen(community);
-    rb_result result;
-
-    memcpy(message, request->at, request->count);
-    message[KIND_AT] = RB_RESPONSE; /* a response has the same form; only its tag differs */
-    for (size_t i = 0; i < ID_SIZE; i++) {
-        message[ID_AT + i] = (uint8_t)(id >> 8 * (ID_SIZE - 1 - i));
-    }
-    result = rb_to_datagram(message, request->count, (const uint8_t *)community, length, out, RB_MESSAGE_MAX);
-    if (result.number == RB_ANSWERED) {
-        out[pdu_at(out, length)] = pdu_tag(request_kind(request));
-    }
-    *count = result.count;
-    return result.number;
 }
 
 /* Judges a datagram that came; what is no answer to the last request is counted and dropped. */
@@ -143,7 +100,7 @@ bool link_ask(struct link *link, const struct octets *request, uint8_t answer[RB
     for (; tries > 0 && link->ids_left > 0; tries--) {
         link->id++;
         link->ids_left--;
-        if (link_datagram(request, link->id, link->community, datagram, &length) != RB_ANSWERED) {
+        if (request_datagram(request, link->id, link->community, datagram, &length) != RB_ANSWERED) {
             return false; /* every request was tried before the night */
         }
         sendto(link->socket, datagram, length, 0, (struct sockaddr *)&link->peer.address, link->peer.length);

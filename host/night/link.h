@@ -22,9 +22,6 @@ struct link {
 
 bool link_open(struct link *link, const char *words, struct complaint *why);
 
-/* Writes a request of our form as a datagram with this id and community. Returns 0, or the number that refuses it. */
-uint32_t link_datagram(const struct octets *request, uint32_t id, const char *community, uint8_t *out, size_t *count);
-
 /* Asks the switch. False where no answer comes; else `answer` is a message, with the request's own id. */
 bool link_ask(struct link *link, const struct octets *request, uint8_t answer[RB_MESSAGE_MAX], size_t *count);
 

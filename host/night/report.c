@@ -77,7 +77,7 @@ char *report_reason(const struct record *record, size_t place)
                     ? record->reason
                     : report_words("it needs what a broken or earlier case left, or was not reached");
     } else if (record->cases[place].state == RB_RUNNING) {
-        words = report_words("the run was interrupted in this case");
+        words = report_words("the run is in this case, or was interrupted in it");
     } else {
         words = words_of(words);
     }

@@ -1,6 +1,6 @@
 /* The cases of a submission in their order, each one playable on a switch. */
-#ifndef NIGHT_PLAN_H
-#define NIGHT_PLAN_H
+#ifndef HOST_PLAN_H
+#define HOST_PLAN_H
 
 #include "submission.h"
 

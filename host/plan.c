@@ -5,7 +5,7 @@
 #include <stdlib.h>
 
 #include "command.h"
-#include "link.h"
+#include "datagram.h"
 #include "message.h"
 
 struct planning {
@@ -27,7 +27,7 @@ static bool check_request(const struct octets *request, const char *community, s
         (request_kind(request) != RB_GET && request_kind(request) != RB_GET_NEXT && request_kind(request) != RB_SET)) {
         return complain(why, "these octets are no SNMP request, so a switch cannot be asked");
     }
-    number = link_datagram(request, 0, community, datagram, &count);
+    number = request_datagram(request, 0, community, datagram, &count);
     return number == RB_ANSWERED ||
            complain(why, "no datagram can carry this (%" PRIu32 "), so a switch cannot be asked", number);
 }
@@ -41,6 +41,17 @@ static bool check_walk(const struct name *name, const char *community, struct co
     return check_request(&request, community, why);
 }
 
+/* The words of a command, from the first to the last, without the comment behind them. */
+static struct text words_of(struct text command)
+{
+    struct text left = command, words = {command.at, command.at};
+
+    while (!text_is_done(&left)) {
+        words.end = text_word(&left, "").end;
+    }
+    return words;
+}
+
 static bool take_bridge(struct planning *planning, const struct line *line, struct complaint *why)
 {
     struct plan *plan = planning->plan;
@@ -48,7 +59,7 @@ static bool take_bridge(struct planning *planning, const struct line *line, stru
     if (!planning->first) {
         return complain(why, "on a switch only the first command of a case sets a bridge up");
     }
-    plan->cases[plan->count - 1].bridge = line->text;
+    plan->cases[plan->count - 1].bridge = words_of(line->text);
     plan->bridges++;
     return true;
 }
