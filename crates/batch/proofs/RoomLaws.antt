@@ -10,17 +10,16 @@ use lib.ListN.{length, take, drop, getD}
 use borrow.Author.Tests.{eq-eqb, ne-eqb}
 use Rattle.block.specs.Image.{contentOf}
 use Rattle.block.specs.Valid.{legal}
-use Rattle.block.specs.Lookup.{lookup}
-use Rattle.names.specs.declared.Shape.{Shape}
+use Rattle.block.specs.Lookup.{lookup, keysOf}
 use Rattle.names.specs.Table.{objectCount}
+use Rattle.block.proofs.StandingLaws.{stands}
 use Rattle.block.proofs.RoundLaws.{legal-valid}
 use Rattle.answer.specs.Get.{elem}
 use Rattle.answer.specs.Writes.{present}
 use Rattle.block.specs.Tables.{rowsOf, most}
 use Rattle.block.specs.declared.tables.Table.{Table}
 use Rattle.block.specs.declared.tables.Table.the-variants.{Vlan as vlan, Static as static}
-use Rattle.answer.specs.Tables.{firstColumn, shapeOf}
-use Rattle.answer.specs.Values.{keysIn}
+use Rattle.answer.specs.Tables.{firstColumn}
 use Rattle.answer.proofs.StoredLaws.{elem-present}
 use Rattle.answer.specs.Terms.{onto, absent}
 use Rattle.answer.proofs.RoomLaws.{by-bool, elem-not-head, elem-not-tail}
@@ -29,31 +28,21 @@ use Rattle.console.specs.Batch.{octetsAt, Means}
 use Rattle.console.specs.declared.frames.Span.{Span}
 use Rattle.console.specs.declared.frames.Framed.{Framed}
 use Rattle.batch.specs.Names.{Group, groupsOf, sameGroup, among, common, keysAt, allNamed}
-use Rattle.batch.specs.Found.{meant, noGroup, groups, Few, namedFrom, SetsFrom, tableFor, absentEach}
+use Rattle.batch.specs.Found.{meant, noGroup, groups, Few, namedFrom, SetsFrom, absentEach}
 use Rattle.batch.specs.declared.groups.NamedGroup.{NamedGroup}
 use Rattle.batch.specs.declared.groups.NamedGroups.{NamedGroups}
-use Rattle.batch.specs.declared.room.Grows.{Grows}
-use Rattle.batch.specs.declared.room.Grows.the-variants.{Vlan, Static}
 use Rattle.batch.proofs.NameLaws.{common-of, keys-append}
 use Rattle.batch.proofs.PairLaws.{Named, Meets, NoneMeet}
 use Rattle.batch.proofs.TurnLaws.{named-turn, named-end}
 use Rattle.batch.proofs.GroupLaws.{drop-turn, drop-end}
 
-module _ (b : List ℕ) (ok : legal b ≡ true) {t u : Grows} (q : t ≡ u) where
-  few : (u : Grows) → length (rowsOf (tableFor u) (contentOf b)) ≤ 256
-  few Vlan = valid-few (contentOf b) (legal-valid b ok .0) vlan
-  few Static = valid-few (contentOf b) (legal-valid b ok .0) static
+-- a table of a legal block has at most 256 rows
+pub few-rows : (b : List ℕ) → legal b ≡ true → (t : Table) → length (rowsOf t (contentOf b)) ≤ 256
+few-rows b ok t = omega (arith, valid-few (contentOf b) (legal-valid b ok .0) t, stands t .4)
 
-  pub counted : {r : ℕ} → r ≡ length (rowsOf (tableFor u) (contentOf b)) → (r ≡ length (rowsOf (tableFor t) (contentOf b))) × (r ≤ 256)
-  counted e = (e ∙ ap (λ (g : Grows). length (rowsOf (tableFor g) (contentOf b))) (sym q), omega (arith, e, few u))
-
-pub there : (b : List ℕ) (t : Grows) (k : ℕ) {s : Shape} {r : Bool} → s ≡ shapeOf (tableFor t) → r ≡ elem k (keysIn (contentOf b) s)
-    → r ≡ present (lookup k (rowsOf (tableFor t) (contentOf b)))
-there b t k e f = f ∙ ap (λ (s : Shape). elem k (keysIn (contentOf b) s)) e ∙ rows-there t
-  where
-    rows-there : (t : Grows) → elem k (keysIn (contentOf b) (shapeOf (tableFor t))) ≡ present (lookup k (rowsOf (tableFor t) (contentOf b)))
-    rows-there Vlan = elem-present k (contentOf b .vlans)
-    rows-there Static = elem-present k (contentOf b .statics)
+-- a row is there where its key is
+pub there : (b : List ℕ) (t : Table) (k : ℕ) {r : Bool} → r ≡ elem k (keysOf (rowsOf t (contentOf b))) → r ≡ present (lookup k (rowsOf t (contentOf b)))
+there b t k f = f ∙ elem-present k (rowsOf t (contentOf b))
 
 -- a key that is named
 elem-among : (t k : ℕ) (gs : List (Option Group)) → elem k (keysAt t gs) ≡ among (some (t, k)) gs

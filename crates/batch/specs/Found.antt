@@ -11,8 +11,6 @@ use Rattle.names.specs.SubIds.{subids}
 use Rattle.names.specs.Table.{objectCount}
 use Rattle.message.specs.Request.{refused, readRequest}
 use Rattle.message.specs.declared.request.Binding.{Binding}
-use Rattle.block.specs.declared.tables.Table.{Table}
-use Rattle.block.specs.declared.tables.Table.the-variants.{Vlan as vlan, Static as static}
 use Rattle.answer.specs.Terms.{absent, isSet}
 use Rattle.answer.specs.Theorems.{Every}
 use Rattle.console.specs.Batch.{mostFrames, framesOf}
@@ -24,8 +22,6 @@ use Rattle.batch.specs.declared.groups.NamedGroup.{NamedGroup}
 use Rattle.batch.specs.declared.groups.NamedGroups.{NamedGroups}
 use Rattle.batch.specs.declared.reads.SetRead.{SetRead}
 use Rattle.batch.specs.declared.reads.SetRead.the-variants.{Taken, Refused}
-use Rattle.batch.specs.declared.room.Grows.{Grows}
-use Rattle.batch.specs.declared.room.Grows.the-variants.{Vlan, Static}
 
 -- the row or scalar of a place and a key; past the object table there is none
 abbrev pub meant : NamedGroup → Option Group
@@ -72,11 +68,6 @@ pub record SetsFrom (b : List ℕ) (at i : ℕ) : Type 0 where
 abbrev pub SetMeans : List ℕ → SetRead → Type 0
 SetMeans m Taken = (i : ℕ) (v : RbBatch) → readThen i (readSet m) v ≡ v
 SetMeans m (Refused r) = (readSet m ≡ refused r) × (r .at ≤ length m)
-
--- the growing table that the code means
-abbrev pub tableFor : Grows → Table
-tableFor Vlan = vlan
-tableFor Static = static
 
 -- the absent rows that messages name, counted message by message
 unfoldable pub absentEach : {R : Type 0} → List (ℕ × R) → (column : ℕ) → List (List (Option Group)) → ℕ

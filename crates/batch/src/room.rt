@@ -1,79 +1,41 @@
 // Room in the growing tables for the absent rows that the messages name.
 ghost use mathlib.Core.Path.{_≡_};
 ghost use mathlib.Core.Bool.{true, cond};
-ghost use Prim.Native.Nat.{_+_, _*_, _≤_, _<_};
+ghost use Prim.Native.Nat.{_+_, _≤_, _<_};
 ghost use lib.Dec.{ltb};
 ghost use lib.ListN.{length, drop};
-ghost use Rattle.block.specs.Lookup.{lookup};
 ghost use Rattle.block.specs.Image.{contentOf};
 ghost use Rattle.block.specs.Valid.{legal};
-ghost use Rattle.answer.specs.Writes.{present};
 ghost use Rattle.block.specs.Tables.{rowsOf, most};
-ghost use Rattle.answer.specs.Tables.{firstColumn, shapeOf};
+ghost use Rattle.answer.specs.Tables.{firstColumn};
 ghost use Rattle.answer.specs.Terms.{absent};
 ghost use Rattle.batch.specs.Names.{keysAt};
-ghost use Rattle.batch.specs.Found.{groups, Few, tableFor, absentEach, SetsFrom, namedFrom};
+ghost use Rattle.batch.specs.Found.{groups, Few, absentEach, SetsFrom, namedFrom};
 use super::frames::groups_at;
 use super::frames::message_at;
 use super::groups::NamedGroups;
 use super::groups::is_among;
-use block::layout::MOST_ROWS;
-use block::reads::static_count;
-use block::reads::vlan_count;
-use get::instances::exists;
-use names::Shape;
+use block::tables::Table;
+use block::tables::row_count;
+use block::tables::standing_of;
+use get::instances::has_row;
 use names::places::STATIC_ADDRESS;
 use names::places::VLAN_NAME;
 
-// The growing tables.
-pub enum Grows {
-    Vlan,
-    Static,
-}
-
 // The place of a table's first column.
-fn first_column(t: Grows) -> usize
-    ensures { λ r. ⌜ r ≡ firstColumn (tableFor t) ⌝ }
+fn first_column(t: Table) -> usize
+    ensures { λ r. ⌜ r ≡ firstColumn t ⌝ }
 {
     match t {
-        Grows::Vlan => VLAN_NAME,
-        Grows::Static => STATIC_ADDRESS,
+        Table::Vlan => VLAN_NAME,
+        Table::Static => STATIC_ADDRESS,
     }
-}
-
-// The shape of a table's index.
-fn shape_of(t: Grows) -> Shape
-    ensures { λ r. ⌜ r ≡ shapeOf (tableFor t) ⌝ }
-{
-    match t {
-        Grows::Vlan => Shape::Vlan,
-        Grows::Static => Shape::Static,
-    }
-}
-
-// How many rows a table has.
-fn row_count(block: &[u8], t: Grows) -> usize
-    requires { ⌜ legal (now block) ≡ true ⌝ }
-    ensures { λ r. ⌜ (r ≡ length (rowsOf (tableFor t) (contentOf (now (block .entry))))) × (r ≤ 256) ⌝ }
-{
-    match t {
-        Grows::Vlan => vlan_count(block),
-        Grows::Static => static_count(block),
-    }
-}
-
-// Whether a growing table has the row with a key.
-fn is_there(block: &[u8], t: Grows, key: u64) -> bool
-    requires { ⌜ legal (now block) ≡ true ⌝ }
-    ensures { λ r. ⌜ r ≡ present (lookup key (rowsOf (tableFor t) (contentOf (now (block .entry))))) ⌝ }
-{
-    exists(block, shape_of(t), key)
 }
 
 // Whether binding i of a message names an absent row of a table that no binding behind it names.
-fn is_new(block: &[u8], t: Grows, of: NamedGroups, i: usize) -> bool
+fn is_new(block: &[u8], t: Table, of: NamedGroups, i: usize) -> bool
     requires { ⌜ (legal (now block) ≡ true) × Few of × (i < of .count) ⌝ }
-    ensures { λ r. ⌜ absent (rowsOf (tableFor t) (contentOf (now (block .entry)))) (keysAt (firstColumn (tableFor t)) (drop i (groups of))) ≡ cond r 1 0 + absent (rowsOf (tableFor t) (contentOf (now (block .entry)))) (keysAt (firstColumn (tableFor t)) (drop (i + 1) (groups of))) ⌝ }
+    ensures { λ r. ⌜ absent (rowsOf t (contentOf (now (block .entry)))) (keysAt (firstColumn t) (drop i (groups of))) ≡ cond r 1 0 + absent (rowsOf t (contentOf (now (block .entry)))) (keysAt (firstColumn t) (drop (i + 1) (groups of))) ⌝ }
 {
     let all = of.all;
     let a = all[i];
@@ -84,13 +46,13 @@ fn is_new(block: &[u8], t: Grows, of: NamedGroups, i: usize) -> bool
     if is_among(a, of, i + 1) {
         return false;
     }
-    !is_there(block, t, a.key)
+    !has_row(block, t, a.key)
 }
 
 // How many absent rows of a table a message names, each once.
-fn absent_in(block: &[u8], t: Grows, of: NamedGroups) -> usize
+fn absent_in(block: &[u8], t: Table, of: NamedGroups) -> usize
     requires { ⌜ (legal (now block) ≡ true) × Few of ⌝ }
-    ensures { λ r. ⌜ (r ≡ absent (rowsOf (tableFor t) (contentOf (now (block .entry)))) (keysAt (firstColumn (tableFor t)) (groups of))) × (r ≤ 16) ⌝ }
+    ensures { λ r. ⌜ (r ≡ absent (rowsOf t (contentOf (now (block .entry)))) (keysAt (firstColumn t) (groups of))) × (r ≤ 16) ⌝ }
 {
     let count = of.count;
     let mut n: usize = 0;
@@ -105,9 +67,9 @@ fn absent_in(block: &[u8], t: Grows, of: NamedGroups) -> usize
 }
 
 // The rows of a table and the absent ones that the messages name, message by message.
-fn needed(block: &[u8], t: Grows, ports: u32, batch: &[u8]) -> usize
+fn needed(block: &[u8], t: Table, ports: u32, batch: &[u8]) -> usize
     requires { ⌜ (legal (now block) ≡ true) × (ports ≤ 64) × SetsFrom (now batch) 0 1 ⌝ }
-    ensures { λ r. ⌜ r ≡ length (rowsOf (tableFor t) (contentOf (now (block .entry)))) + absentEach (rowsOf (tableFor t) (contentOf (now (block .entry)))) (firstColumn (tableFor t)) (namedFrom ports (now (batch .entry)) 0 1) ⌝ }
+    ensures { λ r. ⌜ r ≡ length (rowsOf t (contentOf (now (block .entry)))) + absentEach (rowsOf t (contentOf (now (block .entry)))) (firstColumn t) (namedFrom ports (now (batch .entry)) 0 1) ⌝ }
 {
     let mut n = row_count(block, t);
     let mut at: usize = 0;
@@ -122,9 +84,10 @@ fn needed(block: &[u8], t: Grows, ports: u32, batch: &[u8]) -> usize
 }
 
 // Whether a table has not room for all absent rows that the messages name.
-pub fn is_short(block: &[u8], t: Grows, ports: u32, batch: &[u8]) -> bool
+pub fn is_short(block: &[u8], t: Table, ports: u32, batch: &[u8]) -> bool
     requires { ⌜ (legal (now block) ≡ true) × (ports ≤ 64) × SetsFrom (now batch) 0 1 ⌝ }
-    ensures { λ r. ⌜ r ≡ ltb (most (tableFor t)) (length (rowsOf (tableFor t) (contentOf (now (block .entry)))) + absentEach (rowsOf (tableFor t) (contentOf (now (block .entry)))) (firstColumn (tableFor t)) (namedFrom ports (now (batch .entry)) 0 1)) ⌝ }
+    ensures { λ r. ⌜ r ≡ ltb (most t) (length (rowsOf t (contentOf (now (block .entry)))) + absentEach (rowsOf t (contentOf (now (block .entry)))) (firstColumn t) (namedFrom ports (now (batch .entry)) 0 1)) ⌝ }
 {
-    MOST_ROWS < needed(block, t, ports, batch)
+    let at = standing_of(t);
+    at.most < needed(block, t, ports, batch)
 }
