@@ -68,5 +68,5 @@ void peer_print(const struct peer *peer, char words[PEER_WORDS])
         snprintf(words, PEER_WORDS, "unknown");
         return;
     }
-    snprintf(words, PEER_WORDS, "%s:%s", host, port);
+    snprintf(words, PEER_WORDS, strchr(host, ':') == NULL ? "%s:%s" : "[%s]:%s", host, port);
 }
