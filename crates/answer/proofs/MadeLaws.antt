@@ -12,7 +12,7 @@ use Rattle.names.specs.Index.{canHave, index}
 use Rattle.names.specs.Table.{objectAt}
 use Rattle.names.specs.Instances.{instanceName}
 use Rattle.names.specs.declared.Shape.the-variants.{Vlan, Static}
-use Rattle.names.proofs.InstanceLaws.{All}
+use Rattle.names.specs.Ascending.{All}
 use Rattle.block.specs.Content.{Content, modelOf}
 use Rattle.block.specs.Lookup.{lookup}
 use Rattle.block.specs.Valid.{valid, vlanOk, staticOk}

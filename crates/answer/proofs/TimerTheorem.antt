@@ -9,7 +9,7 @@ use borrow.Author.Tests.{leb-true}
 use Rattle.octets.specs.Numbers.{beAt}
 use Rattle.octets.specs.Parts.{same}
 use Rattle.octets.proofs.NumberLaws.{beAt-beOctets}
-use Rattle.octets.proofs.PartLaws.{both}
+use Rattle.octets.proofs.BoolLaws.{both}
 use Rattle.names.specs.Order.{isPrefix}
 use Rattle.names.specs.Index.{within, weight, digits, number, keyIn, upFrom}
 use Rattle.names.specs.Table.{objects, objectAt, placeUnder, placeOf}
@@ -23,7 +23,7 @@ use Rattle.block.proofs.ValidParts.{valid-parts}
 use Rattle.block.proofs.RoundLaws.{legal-valid}
 use Rattle.block.proofs.KeepLaws.{cells-in}
 use Rattle.block.proofs.TimerLaws.{by-timer, timer-has}
-use Rattle.names.proofs.InstanceLaws.{All}
+use Rattle.names.specs.Ascending.{All}
 use Rattle.answer.specs.Values.{Value, integer, values}
 use Rattle.answer.specs.Get.{elem, get}
 use Rattle.answer.specs.Judge.{Asked, judged}

@@ -2,7 +2,7 @@
 use Prim.Native.Nat.{ℕ, zero, suc, _+_, _-_, _*_, _≤_, _<_}
 use native.Mathlib.Omega.{arith}
 use native.Mathlib.Numerals.{add-one}
-use mathlib.Core.Path.{_≡_, refl, sym, ap, subst, _∙_}
+use mathlib.Core.Path.{_≡_, refl, sym, ap, _∙_}
 use mathlib.Core.Bool.{Bool, true, false, cond, _||_, _&&_, false≢true}
 use mathlib.Core.Option.{Option, none, some}
 use mathlib.Core.List.{List, [], _∷_, _++_, map, map-append, append-assoc, append-nil}
@@ -11,6 +11,7 @@ use lib.ListN.{length, take, drop, getD, set, length-map, length-set, drop-of-le
 use lib.Seq.{length-take-le, drop-cons, take-suc-set, getD-take}
 use borrow.Author.Tests.{eq-eqb, ne-eqb, eqb-true, ltb-true, le-leb, lt-leb}
 use Rattle.octets.specs.Parts.{part, same}
+use Rattle.octets.proofs.BoolLaws.{by-bool, both}
 use Rattle.names.specs.SubIds.{subids}
 use Rattle.names.specs.Table.{objects, placeOf}
 use Rattle.message.specs.declared.form.Refusal.{Refusal}
@@ -19,11 +20,9 @@ use Rattle.message.specs.declared.request.Binding.{Binding}
 use Rattle.message.specs.declared.request.Step.{Step}
 use Rattle.message.specs.Request.{requests, headOf, bindingAt, seventeenth, Bindings, ended, all, prepend, bindingsFrom, Reading, refused, message, readMessage, readRequest}
 use Rattle.message.proofs.FormLaws.{clash}
-use Rattle.message.proofs.BindingLaws.{Placed, StepTells, binding-tells}
 use Rattle.answer.specs.Judge.{Asked, tableFrom, tableOf, placed, grouped, groupOf}
 use Rattle.answer.specs.Terms.{askedIn, isSet}
 use Rattle.answer.specs.Respond.{askedAt}
-use Rattle.answer.proofs.RoomLaws.{by-bool}
 use Rattle.batch.specs.Names.{Group, groupsOf, sameGroup, among, common}
 use Rattle.batch.specs.Found.{meant, noTarget, groupAt}
 use Rattle.batch.specs.declared.groups.Target.{Target}
@@ -125,14 +124,10 @@ abbrev allBelow : ℕ → List ℕ → Bool
 allBelow m [] = true
 allBelow m (x ∷ xs) = ltb x m && allBelow m xs
 
-and-both : (a b : Bool) → (a && b) ≡ true → (a ≡ true) × (b ≡ true)
-and-both true b e = (refl, e)
-and-both false b e = absurd (false≢true e)
-
 below-at : (m : ℕ) (xs : List ℕ) → allBelow m xs ≡ true → (i : ℕ) → i < length xs → getD xs i 0 < m
 below-at m [] e i h = absurd (omega arith)
-below-at m (x ∷ xs) e zero h = ltb-true x m (and-both (ltb x m) (allBelow m xs) e .0)
-below-at m (x ∷ xs) e (suc i) h = below-at m xs (and-both (ltb x m) (allBelow m xs) e .1) i (omega arith)
+below-at m (x ∷ xs) e zero h = ltb-true x m (both (ltb x m) (allBelow m xs) e .0)
+below-at m (x ∷ xs) e (suc i) h = below-at m xs (both (ltb x m) (allBelow m xs) e .1) i (omega arith)
 
 pub table-below : (i : ℕ) → i < 35 → getD tables i 0 < 35
 table-below i h = below-at 35 tables refl i (omega arith)
@@ -178,10 +173,6 @@ set-bound m e = by-head (headOf requests m) refl
         let z : readRequest m ≡ refused r = rw q in
         absurd (false≢true (ap isSet (sym z) ∙ e))
     by-head (Head.Found kind id status index) q = by-bindings kind id status index q (bindingsFrom kind m 16 16) refl
-
--- a binding that the code finds stands in the message
-pub stands : {m : List ℕ} {at : ℕ} {b : Binding} {next : ℕ} {k : Step} → k ≡ bindingAt 3 m at → k ≡ Step.Bound b next → Placed 3 m at b next
-stands {m} {at} e h = subst (StepTells 3 m at) (sym e ∙ h) (binding-tells 3 m at)
 
 -- the first bindings are named, and the next one stands at `at`
 pub record Sofar (ports : ℕ) (m : List ℕ) (found : List Target) (count at : ℕ) : Type 0 where
