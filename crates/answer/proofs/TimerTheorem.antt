@@ -9,7 +9,7 @@ use borrow.Author.Tests.{leb-true}
 use Rattle.octets.specs.Numbers.{beAt}
 use Rattle.octets.specs.Parts.{same}
 use Rattle.octets.proofs.NumberLaws.{beAt-beOctets}
-use Rattle.octets.proofs.PartLaws.{both}
+use Rattle.octets.proofs.BoolLaws.{both}
 use Rattle.names.specs.Order.{isPrefix}
 use Rattle.names.specs.Index.{within, weight, digits, number, keyIn, upFrom}
 use Rattle.names.specs.Table.{objects, objectAt, placeUnder, placeOf}

@@ -10,13 +10,13 @@ use lib.ListN.{length, take, drop, getD, length-append, take-append-drop}
 use lib.Seq.{drop-at}
 use borrow.Author.Tests.{eqb-true, eqb-false, ltb-true, ltb-false, lt-ltb}
 use Rattle.octets.specs.Numbers.{beOctets}
+use Rattle.octets.proofs.OctetLaws.{octets-drop, octets-append, octets-none, octets-one}
+use Rattle.names.specs.Ascending.{All as Every}
 use Rattle.message.specs.Answer.{mostOctets}
 use Rattle.message.proofs.FormLaws.{cond-cases}
-use Rattle.answer.specs.Theorems.{Every}
 use Rattle.console.specs.Frames.{mark, frame, Frame, heading, filling, fresh, Step, inside, whole, wrong, arrived, sized, step, run}
 use Rattle.console.specs.Batch.{mostFrames, led, framesOf}
 use Rattle.console.specs.Streams.{AllOctets}
-use Rattle.console.proofs.StreamLaws.{octets-drop, octets-join}
 use Rattle.console.proofs.FramedLaws.{frame-run, length-frame}
 use Rattle.batch.specs.Theorems.{framed, InFrames, FramesExactly}
 
@@ -29,13 +29,6 @@ Fine (inside (heading c z)) = Unit {0}
 Fine (inside (filling n xs)) = (n ≤ mostOctets) × (length xs < n) × AllOctets xs
 Fine (whole m) = Framed m
 Fine (wrong n) = n ≡ 0 → ⊥
-
-octets-none : AllOctets []
-octets-none i = omega arith
-
-octets-one : (o : ℕ) → o < 256 → AllOctets (o ∷ [])
-octets-one o h zero = h
-octets-one o h (suc i) = omega arith
 
 fine-arrived : (n : ℕ) (xs : List ℕ) → n ≤ mostOctets → length xs ≤ n → AllOctets xs → Fine (arrived n xs)
 unfolding arrived
@@ -51,7 +44,7 @@ unfolding step
 fine-step (heading c z) o h k =
     cond-cases Fine (ltb c 3) (λ e. cond-cases Fine (eqb o (getD mark c 0)) (λ e. tt) (λ e z. omega (arith, z))) (λ e. cond-cases Fine (eqb c 3) (λ e. tt) (λ e. fine-sized (z + o)))
 fine-step (filling n xs) o h k =
-    fine-arrived n (xs ++ (o ∷ [])) (h .0) (omega (arith, length-append xs (o ∷ []), h .1)) (octets-join xs (o ∷ []) (h .2) (octets-one o k))
+    fine-arrived n (xs ++ (o ∷ [])) (h .0) (omega (arith, length-append xs (o ∷ []), h .1)) (octets-append xs (o ∷ []) (h .2) (octets-one o k))
 
 fine-run : (xs : List ℕ) (s : Step) → AllOctets xs → Fine s → Fine (run xs s .1)
 unfolding run

@@ -2,7 +2,7 @@
 use Prim.Native.Nat.{ℕ, zero, suc, _+_, _-_, _≤_, _<_}
 use native.Mathlib.Omega.{arith}
 use native.Mathlib.Numerals.{add-one}
-use mathlib.Core.Path.{_≡_, refl, sym, ap, subst, _∙_}
+use mathlib.Core.Path.{_≡_, refl, sym, ap, _∙_}
 use mathlib.Core.Bool.{Bool, true, false, _||_, false≢true}
 use mathlib.Core.Option.{Option, some}
 use mathlib.Core.List.{List, [], _∷_, _++_, map, map-append, append-assoc, append-nil}
@@ -13,17 +13,17 @@ use borrow.Author.Tests.{eq-eqb, ne-eqb, eqb-true, le-leb, lt-leb}
 use Rattle.names.specs.Table.{objectCount}
 use Rattle.names.specs.Groups.{tableOf}
 use Rattle.names.proofs.GroupLaws.{table-below}
+use Rattle.octets.proofs.BoolLaws.{by-bool, both}
 use Rattle.message.specs.declared.form.Refusal.{Refusal}
 use Rattle.message.specs.declared.request.Head.{Head}
 use Rattle.message.specs.declared.request.Binding.{Binding}
 use Rattle.message.specs.declared.request.BindingRead.{BindingRead}
 use Rattle.message.specs.Request.{requests, headOf, bindingAt, seventeenth, Bindings, ended, all, prepend, bindingsFrom, Reading, refused, message, readMessage, readRequest}
 use Rattle.message.proofs.FormLaws.{clash}
-use Rattle.message.proofs.BindingLaws.{Placed, binding-tells, BindingTells}
+use Rattle.message.proofs.BindingLaws.{BindingTells}
 use Rattle.answer.specs.Judge.{Asked, groupOf}
 use Rattle.answer.specs.Terms.{askedIn, isSet}
 use Rattle.answer.specs.Respond.{askedAt}
-use Rattle.answer.proofs.RoomLaws.{by-bool}
 use Rattle.batch.specs.Names.{Group, groupsOf, sameGroup, among, common}
 use Rattle.batch.specs.Found.{meant, noGroup, groupAt}
 use Rattle.batch.specs.declared.groups.NamedGroup.{NamedGroup}
@@ -135,10 +135,6 @@ set-bound m e = by-head (headOf requests m) refl
         let z : readRequest m ≡ refused r = rw q in
         absurd (false≢true (ap isSet (sym z) ∙ e))
     by-head (Head.Found kind id status index) q = by-bindings kind id status index q (bindingsFrom kind m 16 16) refl
-
--- a binding that the code finds stands in the message
-pub stands : {m : List ℕ} {at : ℕ} {b : Binding} {next : ℕ} {k : BindingRead} → k ≡ bindingAt 3 m at → k ≡ BindingRead.Bound b next → Placed 3 m at b next
-stands {m} {at} e h = subst (BindingTells 3 m at) (sym e ∙ h) (binding-tells 3 m at)
 
 -- the first bindings are named, and the next one stands at `at`
 pub record Sofar (ports : ℕ) (m : List ℕ) (found : List NamedGroup) (count at : ℕ) : Type 0 where

@@ -2,11 +2,12 @@
 use Prim.Native.Nat.{ℕ, _+_}
 use native.Mathlib.Omega.{arith}
 use mathlib.Core.Path.{_≡_, refl, sym, ap, _∙_}
-use mathlib.Core.Bool.{Bool, true, false, cond, _||_, _&&_, true≢false, false≢true}
+use mathlib.Core.Bool.{Bool, true, false, cond, _||_, true≢false, false≢true}
 use mathlib.Core.Option.{Option, none, some}
 use mathlib.Core.List.{List, [], _∷_, _++_, map}
 use lib.Dec.{eqb}
 use borrow.Author.Tests.{eqb-true, eq-eqb}
+use Rattle.octets.proofs.BoolLaws.{by-eq, by-bool, both}
 use Rattle.block.specs.declared.model.Model.{Model}
 use Rattle.answer.specs.Get.{elem}
 use Rattle.answer.specs.Tables.{firstColumn}
@@ -14,7 +15,7 @@ use Rattle.answer.specs.Judge.{Asked, Judged, groupNamed, groupOf, judged}
 use Rattle.block.specs.declared.tables.Table.{Table}
 use Rattle.block.specs.declared.tables.Table.the-variants.{Vlan as vlan, Static as static}
 use Rattle.answer.specs.Terms.{onto, indices, Separate, namedIn, askedOf, namedBy}
-use Rattle.answer.proofs.RoomLaws.{by-bool, by-eq, or-right}
+use Rattle.answer.proofs.RoomLaws.{or-right}
 use Rattle.answer.proofs.JudgeLaws.{judged-groups}
 use Rattle.batch.specs.Names.{Group, groupsOf, sameGroup, among, common, keysAt, allNamed}
 
@@ -22,15 +23,11 @@ or-cases : {C : Type 0} (a b : Bool) → (a || b) ≡ true → (a ≡ true → C
 or-cases true b e f g = f refl
 or-cases false b e f g = g e
 
-and-true : (a b : Bool) → (a && b) ≡ true → (a ≡ true) × (b ≡ true)
-and-true true b e = (refl, e)
-and-true false b e = absurd (false≢true e)
-
 -- one row or scalar
 same-is : (g : Group) (o : Option Group) → sameGroup (some g) o ≡ true → o ≡ some g
 same-is g none e = absurd (false≢true e)
 same-is g (some h) e =
-    let q = and-true (eqb (g .0) (h .0)) (eqb (g .1) (h .1)) e in
+    let q = both (eqb (g .0) (h .0)) (eqb (g .1) (h .1)) e in
     let a : g .0 ≡ h .0 = eqb-true (g .0) (h .0) (q .0) in
     let b : g .1 ≡ h .1 = eqb-true (g .1) (h .1) (q .1) in
     λ i. some (sym a i, sym b i)

@@ -8,6 +8,7 @@ use mathlib.Core.List.{List, [], _∷_, _++_, map}
 use lib.Dec.{eqb}
 use lib.ListN.{length, take, drop, getD}
 use borrow.Author.Tests.{eq-eqb, ne-eqb}
+use Rattle.octets.proofs.BoolLaws.{by-bool}
 use Rattle.block.specs.Image.{contentOf}
 use Rattle.block.specs.Valid.{legal}
 use Rattle.block.specs.Lookup.{lookup, keysOf}
@@ -22,7 +23,7 @@ use Rattle.block.specs.declared.tables.Table.the-variants.{Vlan as vlan, Static
 use Rattle.answer.specs.Tables.{firstColumn}
 use Rattle.answer.proofs.StoredLaws.{elem-present}
 use Rattle.answer.specs.Terms.{onto, absent}
-use Rattle.answer.proofs.RoomLaws.{by-bool, elem-not-head, elem-not-tail}
+use Rattle.answer.proofs.RoomLaws.{elem-not-head, elem-not-tail}
 use Rattle.answer.proofs.KeepValid.{valid-few}
 use Rattle.console.specs.Batch.{octetsAt, Means}
 use Rattle.console.specs.declared.frames.Span.{Span}

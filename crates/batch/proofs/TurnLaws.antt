@@ -7,10 +7,10 @@ use mathlib.Core.List.{List, [], _∷_, map}
 use lib.Dec.{leb}
 use lib.ListN.{length, drop}
 use borrow.Author.Tests.{leb-true, leb-false}
+use Rattle.octets.proofs.BoolLaws.{by-bool}
+use Rattle.names.specs.Ascending.{All as Every}
 use Rattle.message.specs.Request.{readRequest}
 use Rattle.answer.specs.Terms.{isSet}
-use Rattle.answer.specs.Theorems.{Every}
-use Rattle.answer.proofs.RoomLaws.{by-bool}
 use Rattle.console.specs.Batch.{mostFrames, framesMany, framesOf, octetsAt, Means}
 use Rattle.console.specs.declared.frames.Span.{Span}
 use Rattle.console.specs.declared.frames.Framed.{Framed}

@@ -9,10 +9,10 @@ use lib.ListN.{length, take, drop}
 use Rattle.octets.specs.Parts.{part}
 use Rattle.names.specs.SubIds.{subids}
 use Rattle.names.specs.Table.{objectCount}
+use Rattle.names.specs.Ascending.{All as Every}
 use Rattle.message.specs.Request.{refused, readRequest}
 use Rattle.message.specs.declared.request.Binding.{Binding}
 use Rattle.answer.specs.Terms.{absent, isSet}
-use Rattle.answer.specs.Theorems.{Every}
 use Rattle.console.specs.Batch.{mostFrames, framesOf}
 use Rattle.answer.specs.Judge.{groupOf}
 use Rattle.batch.specs.Names.{Group, groupsOf, keysAt}

@@ -1,6 +1,6 @@
 -- The lookup by halving: the turns of its loop, the place that it gives, and how many keys it compares with. Assumes nothing.
 use mathlib.Core.Path.{_≡_, refl, sym, ap, subst, _∙_}
-use mathlib.Core.Bool.{Bool, true, false, cond}
+use mathlib.Core.Bool.{cond}
 use mathlib.Core.List.{List}
 use Prim.Native.Nat.{ℕ, zero, suc, _+_, _-_, _*_, _^_, _≤_, _<_}
 use native.Mathlib.Numerals.{unary-clauses}
@@ -9,6 +9,7 @@ use lib.Dec.{eqb, ltb}
 use lib.ListN.{length, getD}
 use borrow.Author.Tests.{eqb-true, eqb-false, ltb-true, ltb-false, lt-ltb, le-ltb, eq-eqb, ne-eqb}
 use Rattle.octets.specs.Numbers.{beAt}
+use Rattle.octets.proofs.BoolLaws.{by-bool, by-eq}
 use Rattle.block.specs.Layout.{mostRows}
 use Rattle.block.specs.Rows.{rowsAt}
 use Rattle.block.specs.Lookup.{findKey, Ascending, middle, oneMore, halve, halving}
@@ -19,13 +20,6 @@ use Rattle.block.proofs.FindLaws.{Before, Told, told}
 -- the keys of w octets that n rows start with
 abbrev pub keysAt : ℕ → ℕ → List ℕ → ℕ → ℕ → List ℕ
 keysAt w width b p n = rowsAt (λ x q. beAt x q w) width b p n
-
-by-bool : {C : Type 0} (b : Bool) → (b ≡ true → C) → (b ≡ false → C) → C
-by-bool true f g = f refl
-by-bool false f g = g refl
-
-by-eq : {C : Type 0} (a b : ℕ) → (a ≡ b → C) → ((a ≡ b → ⊥) → C) → C
-by-eq a b f g = by-bool (eqb a b) (λ e. f (eqb-true a b e)) (λ e. g (eqb-false a b e))
 
 module _ (k : ℕ) (ks : List ℕ) where
   module _ (a : Ascending ks) where

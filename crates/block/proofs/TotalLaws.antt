@@ -1,19 +1,15 @@
 -- How many VLAN rows are active, when a row comes, goes or changes its status. Assumes nothing.
 use mathlib.Core.Path.{_≡_, refl, ap, _∙_}
-use mathlib.Core.Bool.{Bool, true, false, cond}
 use mathlib.Core.List.{List, [], _∷_, _++_}
 use Prim.Native.Nat.{ℕ, zero, suc, _+_, _-_, _≤_, _<_}
 use native.Mathlib.Omega.{arith}
 use lib.Dec.{eqb}
 use lib.ListN.{length, take, drop, getD, set, take-append-drop}
 use lib.Seq.{set-split, split-at}
+use Rattle.octets.proofs.BoolLaws.{one-or-none}
 use Rattle.block.specs.Rows.{insertAt, removeAt}
 use Rattle.block.specs.Lookup.{oneIfActive, activeVlans, exchanged, noVlan}
 use Rattle.block.specs.declared.rows.VlanRow.{VlanRow}
-
-one-or-none : (t : Bool) → cond t 1 0 ≤ 1
-one-or-none true = omega arith
-one-or-none false = omega arith
 
 -- a row counts once at the most
 pub one-at-most : (status : ℕ) → oneIfActive status ≤ 1

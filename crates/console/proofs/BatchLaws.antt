@@ -9,6 +9,7 @@ use lib.Dec.{ltb, eqb}
 use lib.ListN.{length, take, drop, set, length-drop, length-set, drop-of-length-le, getD}
 use lib.Seq.{drop-drop, take-all, take-suc-set, getD-set-same, getD-set-other}
 use borrow.Author.Tests.{eqb-true, eqb-false, ltb-true, ltb-false, lt-ltb, le-ltb}
+use Rattle.octets.proofs.OctetLaws.{octets-drop}
 use Rattle.console.specs.Frames.{heading, filling, fresh, Step, inside, whole, wrong, arrived, run}
 use Rattle.console.specs.Places.{meant, moved, HeadOf}
 use Rattle.console.specs.Batch.{Within, noSpan, AllWithin, mostFrames, framesMany, led, framesOf, octetsAt, Means}
@@ -23,7 +24,7 @@ use Rattle.console.proofs.RunLaws.{run-none, run-wrong, fills-part, fil
 use Rattle.console.proofs.HeaderLaws.{meant-wrong, meant-sized}
 use Rattle.console.proofs.CallLaws.{meant-inside}
 use Rattle.console.proofs.SoundLaws.{Good, good-heading, good-run}
-use Rattle.console.proofs.StreamLaws.{octets-drop, refuses}
+use Rattle.console.proofs.StreamLaws.{refuses}
 use Rattle.console.proofs.FramedLaws.{after-message}
 
 -- a run that does not end with a message

@@ -7,7 +7,7 @@ use native.Mathlib.Omega.{arith}
 use lib.Dec.{eqb, ltb}
 use lib.ListN.{length, drop, length-append, length-drop}
 use borrow.Author.Tests.{ltb-true, eqb-true}
-use Rattle.octets.proofs.PartLaws.{both}
+use Rattle.octets.proofs.BoolLaws.{both}
 use Rattle.message.specs.Answer.{mostOctets}
 use Rattle.console.specs.Frames.{Frame, Step, inside, wrong, run}
 use Rattle.console.specs.State.{Saved, going, ended, saved, resumed, image, sound}

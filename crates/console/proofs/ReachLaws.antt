@@ -10,7 +10,8 @@ use lib.ListN.{length, drop}
 use lib.Seq.{drop-length}
 use borrow.Author.Tests.{ltb-true, eqb-true}
 use Rattle.octets.specs.Parts.{zeros}
-use Rattle.octets.proofs.PartLaws.{both}
+use Rattle.octets.proofs.BoolLaws.{both}
+use Rattle.octets.proofs.OctetLaws.{octets-drop, octets-none, octets-cons}
 use Rattle.message.specs.Answer.{mostOctets}
 use Rattle.console.specs.Frames.{mark, Frame, heading, filling, fresh, Step, inside, whole, wrong, sized, step, run}
 use Rattle.console.specs.State.{Saved, going, ended, saved, image, sound}
@@ -20,7 +21,7 @@ use Rattle.console.proofs.HeaderLaws.{headed, sized-arrived}
 use Rattle.console.proofs.StateLaws.{drop-state}
 use Rattle.console.proofs.LeftLaws.{either, sound-filling}
 use Rattle.console.proofs.SoundLaws.{sound-ended}
-use Rattle.console.proofs.StreamLaws.{octets-drop, octets-left, hears-call}
+use Rattle.console.proofs.StreamLaws.{octets-left, hears-call}
 
 -- octets that a fresh stream takes to the last, and the state that remains
 noted-remains : (s : Step) (h : Heard) → noted s h .remains ≡ h .remains
@@ -38,13 +39,6 @@ reaches xs f {s} e =
     k ∙ ap (λ (r : ℕ × Step). noted (r .1) (hears (drop (r .0) xs ++ []) (saved (r .1)))) e
     ∙ ap (λ (u : List ℕ). noted s (hears (u ++ []) (saved s))) (drop-length xs) in
     ap (λ (h : Heard). h .remains) m ∙ noted-remains s (silent (image (saved s)))
-
-octets-none : AllOctets []
-octets-none i = omega arith
-
-octets-cons : (x : ℕ) (xs : List ℕ) → x < 256 → AllOctets xs → AllOctets (x ∷ xs)
-octets-cons x xs h k zero = h
-octets-cons x xs h k (suc i) = k i
 
 octets-mark : (xs : List ℕ) → AllOctets xs → AllOctets (127 ∷ 0 ∷ 2 ∷ xs)
 octets-mark xs o = octets-cons 127 (0 ∷ 2 ∷ xs) (omega arith) (octets-cons 0 (2 ∷ xs) (omega arith) (octets-cons 2 xs (omega arith) o))

@@ -3,14 +3,15 @@ use mathlib.Core.Path.{_≡_, refl, sym, ap, ap₂, _∙_}
 use mathlib.Core.Bool.{Bool, true, false, cond, _&&_}
 use mathlib.Core.Logic.{_⊎_, ⊎-elim}
 use mathlib.Core.List.{List, [], _∷_, _++_, flatten}
-use Prim.Native.Nat.{ℕ, zero, suc, _+_, _≤_, _<_}
+use Prim.Native.Nat.{ℕ, _+_, _≤_, _<_}
 use native.Mathlib.Numerals.{add-one}
 use native.Mathlib.Omega.{arith}
 use lib.Dec.{eqb, ltb}
 use lib.ListN.{length, take, drop, getD, drop-of-length-le, take-append-drop, List·getD-append, List·getD-eq-default}
-use lib.Seq.{take-at, getD-drop, getD-append-add, drop-append-le}
+use lib.Seq.{take-at, getD-append-add, drop-append-le}
 use borrow.Author.Tests.{ltb-true, ltb-false, ne-eqb}
 use Rattle.octets.specs.Parts.{patch}
+use Rattle.octets.proofs.OctetLaws.{octets-drop, octets-append}
 use Rattle.message.specs.Answer.{mostOctets}
 use Rattle.console.specs.Frames.{Frame, fresh, Step, inside, whole, wrong, step, run}
 use Rattle.console.specs.State.{Saved, going, ended, saved, resumed, image, sound}
@@ -21,10 +22,6 @@ use Rattle.console.proofs.StateLaws.{patch-first}
 use Rattle.console.proofs.SoundLaws.{Good, good-run, saved-resumed, sound-ended, savedOf-image, left-of-image}
 use Rattle.console.proofs.CallLaws.{take-on}
 
--- octets of parts
-pub octets-drop : (n : ℕ) (xs : List ℕ) → AllOctets xs → AllOctets (drop n xs)
-octets-drop n xs h i = rw (getD-drop n xs i 0) (h (n + i))
-
 pub octets-left : (c r : List ℕ) → AllOctets (c ++ r) → AllOctets c
 octets-left c r h i = go (ltb i (length c)) refl
   where
@@ -34,11 +31,6 @@ octets-left c r h i = go (ltb i (length c)) refl
 
 pub octets-right : (c r : List ℕ) → AllOctets (c ++ r) → AllOctets r
 octets-right c r h i = rw (getD-append-add c r i 0) at (h (length c + i))
-
-pub octets-join : (c r : List ℕ) → AllOctets c → AllOctets r → AllOctets (c ++ r)
-octets-join [] r h k i = k i
-octets-join (x ∷ c) r h k zero = h 0
-octets-join (x ∷ c) r h k (suc i) = octets-join c r (λ j. h (suc j)) k i
 
 -- an ended stream hears nothing more
 pub hears-ended : (xs : List ℕ) (n : ℕ) → hears xs (ended n) ≡ silent (image (ended n))
@@ -147,7 +139,7 @@ unfolding again flatten
 again-octets c cs o h = go (eqb (o .number) 0 && ltb (o .taken) (length c))
   where
     go : (u : Bool) → AllOctets (flatten (cond u (drop (o .taken) c ∷ cs) cs))
-    go true = octets-join (drop (o .taken) c) (flatten cs) (octets-drop (o .taken) c (octets-left c (flatten cs) h)) (octets-right c (flatten cs) h)
+    go true = octets-append (drop (o .taken) c) (flatten cs) (octets-drop (o .taken) c (octets-left c (flatten cs) h)) (octets-right c (flatten cs) h)
     go false = octets-right c (flatten cs) h
 
 -- what a host hears in chunks

@@ -8,6 +8,7 @@ use borrow.Author.Tests.{leb-true, eq-eqb, ne-eqb}
 use lib.Dec.{leb, ltb, eqb}
 use lib.ListN.{length, getD, take, length-drop}
 use Rattle.octets.specs.Parts.{part}
+use Rattle.octets.proofs.BoolLaws.{left-of}
 use Rattle.names.proofs.SubIdLaws.{length-nameOctets}
 use Rattle.message.specs.declared.request.Binding.{Binding}
 use Rattle.message.specs.Form.{tagAllowed, contentLength}
@@ -21,7 +22,7 @@ use Rattle.datagram.specs.Ber.{fewest, five, four, integer32, unsigned32
 use Rattle.datagram.specs.Reading.{takesOf, Within, boundAt, Reading, refused, message, readDatagram, Given, givenBy, fromDatagram}
 use Rattle.datagram.specs.Theorems.{HandsOverReadable}
 use Rattle.datagram.proofs.NameLaws.{two-sub-ids}
-use Rattle.datagram.proofs.PlaceLaws.{left-of, length-five, name-below, name-back}
+use Rattle.datagram.proofs.PlaceLaws.{length-five, name-below, name-back}
 use Rattle.datagram.proofs.BackLaws.{pick}
 use Rattle.datagram.proofs.ReadLaws.{AllWithin, ReadingTells, reading-tells}
 
@@ -110,7 +111,7 @@ Handed answers g =
     → (kind : ℕ) × (id : ℕ) × (status : ℕ) × (index : ℕ) × (bs : List Binding) × (g .count ≤ mostOctets)
     × (request.readMessage (takesOf answers) (take (g .count) (g .room)) ≡ request.message kind id status index bs)
 
-nothing : {A : Type 0} → 0 < 0 → A
+pub nothing : {A : Type 0} → 0 < 0 → A
 nothing h = absurd (omega (arith, h))
 
 pub hands-over-readable : HandsOverReadable

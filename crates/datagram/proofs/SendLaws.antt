@@ -1,18 +1,19 @@
 -- Laws of sending a response: what reading it tells, and how the parts of the datagram come together. Assumes nothing.
 use Prim.Native.Nat.{ℕ, zero, suc, _+_, _*_, _-_, _/_, _%_, _≤_, _<_}
 use mathlib.Core.Path.{_≡_, refl, sym, ap, subst, _∙_}
-use mathlib.Core.Bool.{Bool, true, false, cond, _&&_}
+use mathlib.Core.Bool.{true, false, _&&_}
 use mathlib.Core.List.{List, [], _∷_, _++_, map, append-assoc}
 use native.Mathlib.Omega.{arith}
 use native.Mathlib.Numerals.{add-one}
 use borrow.Author.Tests.{leb-true, leb-false, eqb-true, le-leb, lt-leb, lt-ltb, le-ltb}
 use lib.Dec.{leb, eqb}
-use lib.ListN.{length, getD, take, drop, replicate, length-append, length-replicate, length-take, drop-of-length-le, List·getD-append}
+use lib.ListN.{length, getD, take, drop, replicate, length-append, length-replicate, List·getD-append}
 use lib.Seq.{drop-cons, drop-at, take-at, getD-take, length-take-le}
 use Rattle.octets.specs.Numbers.{beOctets}
 use Rattle.octets.specs.Parts.{part, patch}
 use Rattle.octets.proofs.NumberLaws.{length-beOctets}
 use Rattle.octets.proofs.PartLaws.{patch-none, patch-patch}
+use Rattle.octets.proofs.BoolLaws.{both}
 use Rattle.message.specs.declared.form.Field.{Field}
 use Rattle.message.specs.declared.form.Field.the-variants.{Cut, Whole}
 use Rattle.message.specs.declared.form.Role.{Role}
@@ -22,15 +23,16 @@ use Rattle.message.specs.declared.form.Checked.{Checked}
 use Rattle.message.specs.declared.request.Head.{Head}
 use Rattle.message.specs.declared.request.Binding.{Binding}
 use Rattle.message.specs.declared.request.BindingRead.{BindingRead}
-use Rattle.message.specs.Form.{fieldAt, tagAllowed, contentLength, lengthRight, refusal, judged, checkedAt, atKindField, atKind, atIdField, atStatusField, headSize, mostBindings}
+use Rattle.message.specs.Form.{fieldAt, tagAllowed, lengthRight, refusal, judged, checkedAt, atKindField, atKind, atIdField, atStatusField, headSize, mostBindings}
 use Rattle.message.specs.Request.{checkedThen, statusAllowed, statusOf, idOf, contentRole, contentIn, bindingTagAt, notBinding, seventeenth, Bindings, ended, all, prepend, bindingThen, noBinding, withBindings}
 use Rattle.message.specs.Answer.{Bound, mostOctets, boundAt}
 use Rattle.message.proofs.FormLaws.{InPlace, told, cond-cases, clash}
+use Rattle.message.proofs.BindingLaws.{content-brief}
 use Rattle.datagram.specs.declared.response.Answers.{Answers}
 use Rattle.datagram.specs.Writing.{lengthForm, headerForm, berOctets, shortened, nameBer, berTag, contentBer, bindingBer, bindingsBer, responseBer, responseFields, responseFront, datagramFields, datagramFront, datagramOctets, nameWritten, responseIn, responseAt, responsesFrom, responseHead, readResponse, answersOf, Writable, Ready, Put, notSent, sent, sentBy, toDatagram}
 use Rattle.datagram.proofs.BerLaws.{part-length}
 use Rattle.datagram.proofs.WriteLaws.{field-before, two-before, header-most, name-most, content-most, shortened-most, binding-is}
-use Rattle.datagram.proofs.PlaceLaws.{name-back}
+use Rattle.datagram.proofs.PlaceLaws.{name-back, left, left-none}
 
 -- ## What is put
 
@@ -105,12 +107,6 @@ pub binding-put : (s : List ℕ) (b : Binding) {a a₀ a₁ a₂ : List ℕ} {c 
 binding-put s b {a} {a₂ = a₂} {p = p} r m e w h v f = subst (Put a a₂ r p) (binding-is s b m (berTag (b .tag)) e refl) (put-field (put-two w h v) h 0x30 r f)
 
 -- ## The bindings, from the first to the last
-
-abbrev pub left : List ℕ → List Binding → (count i : ℕ) → List Bound
-left s bs count i = map (boundAt s) (drop i (take count bs))
-
-pub left-none : (s : List ℕ) (bs : List Binding) (count i : ℕ) → count ≤ i → left s bs count i ≡ []
-left-none s bs count i h = rw (drop-of-length-le (take count bs) {i = i} (omega (arith, length-take count bs)))
 
 module _ (s : List ℕ) (bs : List Binding) (count i : ℕ) (h : i < count) (k : count ≤ length bs) where
   bers-turn : bindingsBer (left s bs count i) ≡ bindingBer (boundAt s (getD bs i noBinding)) ++ bindingsBer (left s bs count (i + 1))
@@ -291,26 +287,12 @@ checked-cases P p s at end {stop} {go} refuses finds = cases (checkedAt p s at e
     cases (Checked.Refused r) e w = refuses r w
     cases (Checked.Found tag start len) e w = finds tag start len e
 
-both : (a b : Bool) → (a && b) ≡ true → (a ≡ true) × (b ≡ true)
-both true true e = (refl, refl)
-both true false e = (refl, e)
-both false b e = clash (cc)
-
 pub name-length : (tag len : ℕ) → lengthRight Name tag len ≡ true → (8 ≤ len) × (len % 4 ≡ 0) × (len ≤ 512)
 unfolding lengthRight
 name-length tag len e =
     let o : ((leb 8 len && leb len 512) ≡ true) × (eqb (len % 4) 0 ≡ true) = both (leb 8 len && leb len 512) (eqb (len % 4) 0) e in
     let l : (leb 8 len ≡ true) × (leb len 512 ≡ true) = both (leb 8 len) (leb len 512) (o .0) in
     (leb-true 8 len (l .0), eqb-true (len % 4) 0 (o .1), leb-true len 512 (l .1))
-
-content-brief : (tag len : ℕ) → contentLength tag len ≡ true → len ≤ 255
-unfolding contentLength
-content-brief tag len = go (eqb tag 0x22) (leb 0x21 tag && leb tag 0x24)
-  where
-    go : (a b : Bool) → cond a (leb len 255) (cond b (eqb len 4) (eqb len 0)) ≡ true → len ≤ 255
-    go true b e = leb-true len 255 e
-    go false true e = omega (arith, eqb-true len 4 e)
-    go false false e = omega (arith, eqb-true len 0 e)
 
 -- the head: a refusal's place, or the kind
 abbrev HeadTells : Head → Type 0

@@ -1,23 +1,24 @@
 -- The rule of values: what it comes to in each edition (`specs/Theorems.antt`), and what callers use of it. Assumes nothing.
 use mathlib.Core.Path.{_≡_, refl, sym, ap, _∙_}
 use mathlib.Core.Logic.{_↔_}
-use mathlib.Core.Bool.{Bool, true, false, cond, _&&_, _||_, true≢false}
+use mathlib.Core.Bool.{Bool, true, false, cond, _||_, true≢false, and-true}
 use Prim.Native.Nat.{ℕ, zero, suc, _+_, _*_, _/_, _%_, _≤_, _<_}
 use native.Mathlib.Nat.{zero-add, mod-one, mul-mod-left, mul-le-mul-right, div-lt-iff-lt-mul, div-add-mod'}
 use native.Mathlib.Omega.{arith}
 use lib.Dec.{eqb, leb, ltb, lit≤}
 use lib.ListN.{getD}
 use borrow.Author.Tests.{leb-true, le-leb, eqb-true, eq-eqb, ne-eqb, ltb-true}
-use Rattle.octets.proofs.PartLaws.{both}
+use Rattle.octets.specs.Lists.{every}
+use Rattle.octets.proofs.BoolLaws.{both}
 use Rattle.names.specs.Table.{objects, objectAt, missing}
 use Rattle.names.specs.Places.{stpPriority, stpPortPriority}
 use Rattle.names.specs.Rule.{oldEdition, newEdition, stepIn, inRange, inSteps, takes}
 use Rattle.names.specs.Theorems.{SixteenSteps, NewPriorities, OthersKeepRanges, OldRanges}
 use Rattle.names.specs.declared.table.ObjectType.{ObjectType}
-use Rattle.names.proofs.TableLaws.{every, every-at, everyFrom, every-from}
+use Rattle.names.proofs.TableLaws.{every-at, everyFrom, every-from}
 
 all-stepped : every (λ o. ltb 0 (o .step)) objects ≡ true
-unfolding objects
+unfolding objects every
 all-stepped = refl
 
 -- every object has a step, the smallest 1
@@ -27,10 +28,6 @@ step-positive i = ltb-true 0 (objectAt i .step) (every-at (λ o. ltb 0 (o .step)
 -- a value is in its range whatever the edition
 pub takes-range : (e : ℕ) (o : ObjectType) (v : ℕ) → takes e o v ≡ true → inRange o v ≡ true
 takes-range e o v h = both (inRange o v) (inSteps (stepIn e o) v) h .0
-
-and-true : (b : Bool) → (b && true) ≡ b
-and-true true = refl
-and-true false = refl
 
 pub step-one : (v : ℕ) → inSteps 1 v ≡ true
 step-one v = rw (mod-one v)

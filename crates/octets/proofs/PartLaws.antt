@@ -6,18 +6,13 @@ use Prim.Native.Nat.{ℕ, zero, suc, _+_, _≤_, _<_}
 use native.Mathlib.Nat.{add-zero}
 use native.Mathlib.Numerals.{add-one}
 use native.Mathlib.Omega.{arith}
-use lib.ListN.{length, take, drop, getD, set, length-append, length-drop, take-append-drop, List·getD-append, replicate-append-replicate, length-replicate}
+use lib.ListN.{drop-of-length-le, length, take, drop, getD, set, length-append, length-drop, take-append-drop, List·getD-append, replicate-append-replicate, length-replicate}
 use lib.Seq.{take-set-le, drop-cons, append-snoc, length-take-le, take-at, drop-at, set-at, set-split, getD-append-add, take-add, drop-drop, sets, sets-eq, set-comm, getD-at}
 use borrow.Author.Tests.{eqb-true, eq-eqb, ne-eqb, eqb-false}
 use lib.Bits.{bitOr, or-zero-l, or-add-and, and-le-r}
 use lib.Dec.{eqb, eqb·suc-zero}
-use Rattle.octets.specs.Parts.{patch, zeros, zeroRun, same}
-
--- both of two tests hold where their `&&` does
-pub both : (a b : Bool) → a && b ≡ true → (a ≡ true) × (b ≡ true)
-both true b e = (refl, e)
-both false true e = (e, refl)
-both false false e = (e, e)
+use Rattle.octets.specs.Parts.{part, patch, zeros, zeroRun, same}
+use Rattle.octets.proofs.BoolLaws.{both}
 
 -- what stands from index q on after a store there
 drop-set-same : (b : List ℕ) (q d : ℕ) → q < length b → drop q (set b q d) ≡ d ∷ drop (suc q) b
@@ -61,6 +56,12 @@ zeros-snoc n = sym (replicate-append-replicate n 1 0)
 pub length-zeros : (n : ℕ) → length (zeros n) ≡ n
 unfolding zeros
 length-zeros n = length-replicate n 0
+
+pub zeros-at : (n i : ℕ) → getD (zeros n) i 0 ≡ 0
+unfolding zeros
+zeros-at zero i = refl
+zeros-at (suc n) zero = refl
+zeros-at (suc n) (suc i) = zeros-at n i
 
 pub zeros-append : (n m : ℕ) → zeros n ++ zeros m ≡ zeros (n + m)
 unfolding zeros
@@ -167,6 +168,14 @@ patch-three b p x y z q r e f h =
 pub take-take-drop : (b : List ℕ) (p m n : ℕ) → take m (drop p b) ++ take n (drop (p + m) b) ≡ take (m + n) (drop p b)
 take-take-drop b p m n = rw (← drop-drop m p b) (sym (take-add m n (drop p b)))
 
+-- the part between two others
+pub part-in : (s x c z : List ℕ) (p : ℕ) → s ≡ x ++ (c ++ z) → length x ≡ p → part s p (length c) ≡ c
+part-in s x c z p is e = rw (is, drop-at x (c ++ z) p e) (take-at c z (length c) refl)
+
+-- a part of one octet
+pub part-one : (s : List ℕ) (p : ℕ) → p < length s → part s p 1 ≡ getD s p 0 ∷ []
+part-one s p h = rw (drop-cons s p 0 h)
+
 -- equal lists are found equal, and lists that are found equal are
 pub same-refl : (xs : List ℕ) → same xs xs ≡ true
 unfolding same
@@ -211,3 +220,11 @@ pub same-turn : (xs ys : List ℕ) (i : ℕ) → i < length xs → i < length ys
     → same (drop i xs) (drop i ys) ≡ (eqb (getD xs i 0) (getD ys i 0) && same (drop (i + 1) xs) (drop (i + 1) ys))
 unfolding same
 same-turn xs ys i h k = rw (add-one, drop-cons xs i 0 h, drop-cons ys i 0 k)
+
+-- the last octets are zeros where they are found so
+pub same-last : (b : List ℕ) (p n : ℕ) → p + n ≡ length b → same (zeros n) (drop p b) ≡ zeroRun b p n
+unfolding same zeros zeroRun
+same-last b p zero e = rw (drop-of-length-le b {i = p} (omega arith))
+same-last b p (suc n) e =
+    rw (drop-cons b p 0 (omega arith), eqb-swap 0 (getD b p 0))
+    (ap (λ (t : Bool). eqb (getD b p 0) 0 && t) (rw (← add-one p) (same-last b (p + 1) n (omega arith))))

@@ -20,6 +20,8 @@ use Rattle.octets.specs.Numbers.{beAt, beOctets}
 use Rattle.octets.specs.Parts.{part, zeros}
 use Rattle.octets.specs.Ports.{member, portsTo, onlyTo, disjoint, membersTo, members, differsFrom, firstDiffering, setOf, portOctets}
 use Rattle.octets.proofs.NumberLaws.{Octets, beAt-more, length-beOctets, beAt-beOctets, beAt-lt, beAt-same}
+use Rattle.octets.proofs.PartLaws.{zeros-at}
+use Rattle.octets.proofs.BoolLaws.{one-or-none}
 
 -- a port of 1 to w is in the set where its digit is 1
 pub member-in : (w s p : ℕ) → 1 ≤ p → p ≤ w → member w s p ≡ eqb (s / 2 ^ (w - p) % 2) 1
@@ -334,13 +336,9 @@ pub members-le : (w s : ℕ) → members w s ≤ w
 unfolding membersTo
 members-le w s = go w
   where
-    one-at-most : (t : Bool) → cond t 1 0 ≤ 1
-    one-at-most true = omega arith
-    one-at-most false = omega arith
-
     go : (p : ℕ) → membersTo w s p ≤ p
     go zero = omega arith
-    go (suc p) = omega (arith, go p, one-at-most (member w s (suc p)))
+    go (suc p) = omega (arith, go p, one-or-none (member w s (suc p)))
 
 differs-lt : (w a b p n : ℕ) → 1 ≤ p → differsFrom w a b p n < p + n
 unfolding differsFrom
@@ -354,12 +352,6 @@ differs-lt w a b p (suc n) h = go (Bool·beq (member w a p) (member w b p)) (dif
 -- the first port that differs is one of the w
 pub first-le : (w a b : ℕ) → firstDiffering w a b ≤ w
 first-le w a b = omega (arith, differs-lt w a b 1 w (omega arith))
-
-zeros-at : (n i : ℕ) → getD (zeros n) i 0 ≡ 0
-unfolding zeros
-zeros-at zero i = refl
-zeros-at (suc n) zero = refl
-zeros-at (suc n) (suc i) = zeros-at n i
 
 -- zeros behind the octets of a set change nothing
 pub set-zeros : (us : List ℕ) (n : ℕ) → setOf (us ++ zeros n) ≡ setOf us

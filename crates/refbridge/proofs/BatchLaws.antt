@@ -10,10 +10,11 @@ use lib.ListN.{length, take, drop, getD, set, length-append, length-drop, length
 use lib.Seq.{length-take-le, take-length, take-at, drop-at, take-append-le, drop-append-le, drop-append-add, drop-drop, append-snoc, getD-append-seam, getD-set-same, getD-set-other, getD-take}
 use borrow.Author.Tests.{ltb-true, ltb-false}
 use Rattle.octets.specs.Parts.{part}
+use Rattle.octets.proofs.BoolLaws.{by-eq, by-bool}
+use Rattle.names.specs.Ascending.{All as Every}
+use Rattle.names.proofs.AllLaws.{all-at}
 use Rattle.message.specs.Answer.{mostOctets}
 use Rattle.answer.specs.Respond.{Outcome, answerOf}
-use Rattle.answer.specs.Theorems.{Every}
-use Rattle.answer.proofs.RoomLaws.{by-bool, by-eq}
 use Rattle.console.specs.Batch.{mostFrames, framesOf, octetsAt, Within, noSpan, AllWithin}
 use Rattle.console.specs.declared.frames.Span.{Span}
 use Rattle.batch.specs.Check.{accepted, checkBatch}
@@ -257,12 +258,6 @@ plays-order batch order rooms l h d =
       rooms = rooms-are ms rooms 0 order l (omega arith);
     }
 
--- each of a list
-every-at : {A : Type 0} (P : A → Type 0) (xs : List A) (k : ℕ) (d : A) → k < length xs → Every P xs → P (getD xs k d)
-every-at P [] k d h w = absurd (omega arith)
-every-at P (x ∷ xs) zero d h w = w .0
-every-at P (x ∷ xs) (suc k) d h w = every-at P xs k d (omega arith) (w .1)
-
 -- two orders of a batch that is accepted
 module _ (block batch p q rooms more : List ℕ) {first second : List RbResult} {rooms-after more-after one-after other-after : List ℕ}
     (u : InOrder block batch p rooms first rooms-after one-after) (v : InOrder block batch q more second more-after other-after)
@@ -283,8 +278,8 @@ module _ (block batch p q rooms more : List ℕ) {first second : List RbResult} 
     -- two turns with one message
     meets : (j k : ℕ) → j < length p → k < length q → getD p j 0 ≡ getD q k 0 → SameAnswer (getD (played block xs) j noTurn .1) (getD (played block ys) k noTurn .1)
     meets j k hj hk e =
-        every-at (λ u. getD (played block xs) j noTurn .0 ≡ u .0 → SameAnswer (getD (played block xs) j noTurn .1) (u .1)) (played block ys) k noTurn (in-second k hk)
-        (every-at (λ o. Every (λ u. o .0 ≡ u .0 → SameAnswer (o .1) (u .1)) (played block ys)) (played block xs) j noTurn (in-first j hj) (s .same))
+        all-at (λ u. getD (played block xs) j noTurn .0 ≡ u .0 → SameAnswer (getD (played block xs) j noTurn .1) (u .1)) noTurn (played block ys) k
+        (all-at (λ o. Every (λ u. o .0 ≡ u .0 → SameAnswer (o .1) (u .1)) (played block ys)) noTurn (played block xs) j (s .same) (in-first j hj)) (in-second k hk)
         (ap (λ (o : List ℕ × Outcome). o .0) (played-at block xs j (omega (arith, hj, many-turns (messagesOf batch) rooms 0 p)) (turn-at (messagesOf batch) rooms 0 p j noneTurn hj))
         ∙ ap (numbered (messagesOf batch)) e
         ∙ sym (ap (λ (o : List ℕ × Outcome). o .0) (played-at block ys k (omega (arith, hk, many-turns (messagesOf batch) more 0 q)) (turn-at (messagesOf batch) more 0 q k noneTurn hk))))
@@ -292,8 +287,8 @@ module _ (block batch p q rooms more : List ℕ) {first second : List RbResult} 
     pub alike : Alike p q first second rooms-after more-after one-after other-after
     alike =
         record {
-          first-answered = λ k h. ap (λ (o : Outcome). o .number) (u .each k h) ∙ every-at (λ o. o .1 .number ≡ 0) (played block xs) k noTurn (in-first k h) (s .first-answered);
-          second-answered = λ k h. ap (λ (o : Outcome). o .number) (v .each k h) ∙ every-at (λ o. o .1 .number ≡ 0) (played block ys) k noTurn (in-second k h) (s .second-answered);
+          first-answered = λ k h. ap (λ (o : Outcome). o .number) (u .each k h) ∙ all-at (λ o. o .1 .number ≡ 0) noTurn (played block xs) k (s .first-answered) (in-first k h);
+          second-answered = λ k h. ap (λ (o : Outcome). o .number) (v .each k h) ∙ all-at (λ o. o .1 .number ≡ 0) noTurn (played block ys) k (s .second-answered) (in-second k h);
           counts =
               λ j k hj hk e. ap (λ (o : Outcome). o .count) (u .each j hj) ∙ meets j k hj hk e .count ∙ sym (ap (λ (o : Outcome). o .count) (v .each k hk));
           octets =

@@ -8,6 +8,7 @@ use mathlib.Core.List.{List, [], _∷_, _++_, append-assoc}
 use lib.ListN.{length, take, drop, getD, set, length-append, length-drop}
 use lib.Seq.{drop-cons, take-length, take-append-seam, length-take-le, getD-append-add, getD-drop}
 use Rattle.names.specs.Ascending.{All, Rising}
+use Rattle.names.proofs.AllLaws.{all-append, all-take, all-drop}
 use Rattle.block.specs.Content.{Content, Shape, withStatics}
 use Rattle.block.specs.Image.{image, contentOf}
 use Rattle.block.specs.Lookup.{Sized, keysOf, noStatic}
@@ -86,20 +87,6 @@ stay-next (x ∷ es) (suc i) d h =
     go true false s r e = e
     go false true s r e = ap (λ (l : List Entry). x ∷ l) e
     go false false s r e = ap (λ (l : List Entry). x ∷ l) e
-
-all-append : (P : Entry → Type 0) (xs ys : List Entry) → All P xs → All P ys → All P (xs ++ ys)
-all-append P [] ys p q = q
-all-append P (x ∷ xs) ys p q = (p .0, all-append P xs ys (p .1) q)
-
-all-take : (P : Entry → Type 0) (i : ℕ) (xs : List Entry) → All P xs → All P (take i xs)
-all-take P zero xs h = tt
-all-take P (suc i) [] h = tt
-all-take P (suc i) (x ∷ xs) h = (h .0, all-take P i xs (h .1))
-
-all-drop : (P : Entry → Type 0) (i : ℕ) (xs : List Entry) → All P xs → All P (drop i xs)
-all-drop P zero xs h = h
-all-drop P (suc i) [] h = tt
-all-drop P (suc i) (x ∷ xs) h = all-drop P i xs (h .1)
 
 -- the place behind the rows that were written, where the first i rows were looked at
 pub written-short : (es : List Entry) (i : ℕ) → i ≤ length es → length (stay (take i es)) ≤ i

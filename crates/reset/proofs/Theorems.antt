@@ -1,5 +1,5 @@
 -- The statements of `specs/Theorems.antt`, proved. Assumes nothing.
-use Prim.Native.Nat.{ℕ, _<_, _≤_}
+use Prim.Native.Nat.{ℕ}
 use native.Mathlib.Omega.{arith}
 use mathlib.Core.Path.{_≡_, refl, sym, ap, _∙_}
 use mathlib.Core.Bool.{Bool, true, false, cond}
@@ -7,7 +7,7 @@ use mathlib.Core.Option.{Option, none, some}
 use mathlib.Core.List.{List, [], _∷_}
 use lib.Dec.{eqb}
 use lib.ListN.{length}
-use borrow.Author.Tests.{eqb-true, ne-eqb}
+use borrow.Author.Tests.{eqb-true}
 use Rattle.names.specs.Index.{canHave, index}
 use Rattle.names.specs.declared.Shape.the-variants.{Static}
 use Rattle.names.specs.Ascending.{All, Rising}
@@ -17,15 +17,12 @@ use Rattle.block.specs.Lookup.{keysOf, lookup}
 use Rattle.block.specs.Valid.{rowsOk, staticOk, valid, legal}
 use Rattle.block.specs.declared.rows.StaticRow.{StaticRow}
 use Rattle.block.proofs.ValidParts.{Valid, valid-parts}
-use Rattle.block.proofs.KeepLaws.{RowsOk, rowsOk-parts, parts-rowsOk, rowsOk-rising, valid-statics}
+use Rattle.block.proofs.KeepLaws.{RowsOk, rowsOk-parts, parts-rowsOk, rowsOk-rising, valid-statics, least-zero}
 use Rattle.block.proofs.RoundLaws.{contentOf-image, legal-image, legal-valid}
+use Rattle.block.proofs.AlterLaws.{look-below}
 use Rattle.reset.specs.Reset.{goes, stay, afterReset, resetBlock}
 use Rattle.reset.specs.Theorems.{ResetKeepsLegal, ResetKeepsEdition, ResetTwice, rowAfter, ResetRows}
 use Rattle.reset.proofs.ResetLaws.{stay-short, all-stay, rising-stay, stay-twice}
-
-least-zero : (ks : List ℕ) → All (λ k. 0 ≤ k) ks
-least-zero [] = tt
-least-zero (k ∷ ks) = (omega arith, least-zero ks)
 
 -- a valid content stays valid
 pub reset-valid : (c : Content) → valid c ≡ true → valid (afterReset c) ≡ true
@@ -69,12 +66,6 @@ twice b = go (legal b) refl
         ∙ sym (legal-reset b e)
     go false e = ap resetBlock (ap (λ (t : Bool). cond t (image (afterReset (contentOf b))) b) e)
 
--- a key below all others is not there
-none-above : (k : ℕ) (es : List (ℕ × StaticRow)) → All (λ j. k < j) (keysOf es) → lookup k es ≡ none
-unfolding lookup
-none-above k [] h = refl
-none-above k (e ∷ es) h = rw (ne-eqb (e .0) k (λ q. omega (arith, h .0))) (none-above k es (h .1))
-
 lookup-stay : (k : ℕ) (es : List (ℕ × StaticRow)) → Rising (keysOf es) → lookup k (stay es) ≡ rowAfter (lookup k es)
 unfolding lookup stay
 lookup-stay k [] h = refl
@@ -83,7 +74,7 @@ lookup-stay k (e ∷ es) h = go (goes (e .1)) refl (eqb (e .0) k) refl (lookup-s
     go : (a : Bool) → goes (e .1) ≡ a → (b : Bool) → eqb (e .0) k ≡ b → lookup k (stay es) ≡ rowAfter (lookup k es)
         → lookup k (cond a (stay es) (e ∷ stay es)) ≡ rowAfter (cond b (some (e .1)) (lookup k es))
     go true p true q r =
-        let n : lookup k es ≡ none = rw (sym (eqb-true (e .0) k q)) (none-above (e .0) es (h .0)) in
+        let n : lookup k es ≡ none = rw (sym (eqb-true (e .0) k q)) (look-below (e .0) es (h .0)) in
         r ∙ ap rowAfter n ∙ rw p
     go true p false q r = r
     go false p true q r = rw (q, p)

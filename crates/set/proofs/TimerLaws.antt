@@ -10,7 +10,7 @@ use lib.Dec.{eqb}
 use lib.ListN.{length, getD, take, set}
 use lib.Seq.{take-suc, getD-set-same, getD-set-other}
 use borrow.Author.Tests.{eqb-true, eqb-false, ne-eqb}
-use Rattle.octets.proofs.PartLaws.{both}
+use Rattle.octets.proofs.BoolLaws.{both, by-bool}
 use Rattle.names.specs.Places.{isTimer}
 use Rattle.block.specs.Layout.{manyCells}
 use Rattle.block.specs.Content.{Content}
@@ -19,7 +19,6 @@ use Rattle.block.proofs.TimerLaws.{by-timer, timer-place}
 use Rattle.block.specs.declared.tables.Table.{Table}
 use Rattle.answer.specs.Judge.{Judged}
 use Rattle.answer.specs.Set.{cellWrite, also, gather, setCells, resultingCells}
-use Rattle.answer.proofs.RoomLaws.{by-bool}
 use Rattle.answer.proofs.OnlyWriteLaws.{gather-append, cells-append, cells-length}
 use Rattle.set.specs.Steps.{columnIn, meant, meantBy, OwnCell}
 use Rattle.set.specs.declared.judge.Step.{Step}

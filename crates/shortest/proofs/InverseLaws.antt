@@ -10,8 +10,8 @@ use lib.Dec.{leb, ltb, eqb}
 use lib.ListN.{length, getD, take, drop, replicate, length-append, length-drop}
 use lib.Seq.{take-all}
 use Rattle.octets.specs.Numbers.{beAt, beOctets}
-use Rattle.octets.proofs.PartLaws.{both}
 use Rattle.octets.proofs.NumberLaws.{Octets, beOctets-beAt}
+use Rattle.octets.proofs.BoolLaws.{both}
 use Rattle.names.specs.SubIds.{nameOctets, Fits}
 use Rattle.names.proofs.SubIdLaws.{subids-nameOctets}
 use Rattle.message.specs.Form.{tagAllowed}

@@ -1,5 +1,5 @@
 -- Octets and the shortest that say the same: at most as long, and the same where they are as long. Assumes nothing.
-use Prim.Native.Nat.{ℕ, zero, suc, _+_, _-_, _/_, _%_, _≤_, _<_}
+use Prim.Native.Nat.{ℕ, zero, suc, _+_, _-_, _≤_, _<_}
 use mathlib.Core.Path.{_≡_, refl, sym, ap, ap₂, subst, _∙_}
 use mathlib.Core.Bool.{Bool, true, false, cond, _&&_}
 use mathlib.Core.List.{List, [], _∷_, _++_}
@@ -11,14 +11,15 @@ use lib.ListN.{length, getD, take, drop, length-append}
 use lib.Seq.{drop-cons}
 use Rattle.octets.specs.Numbers.{beAt, beOctets}
 use Rattle.octets.specs.Parts.{part}
-use Rattle.octets.proofs.PartLaws.{both, take-take-drop}
+use Rattle.octets.proofs.PartLaws.{take-take-drop}
 use Rattle.octets.proofs.NumberLaws.{Octets, beAt-one, beOctets-beAt, length-beOctets}
+use Rattle.octets.proofs.BoolLaws.{both}
+use Rattle.octets.proofs.OctetLaws.{octets-append, octets-part, octets-none, octets-cons, octets-be}
 use Rattle.message.specs.declared.form.Field.{Field}
 use Rattle.message.specs.declared.form.Field.the-variants.{Cut, Whole}
 use Rattle.datagram.specs.Ber.{longForm, lengthOctets, lengthSaid, wholeIf, fieldAt}
 use Rattle.datagram.specs.Writing.{lengthForm, headerForm, berOctets}
 use Rattle.datagram.proofs.BerLaws.{part-length, said-long}
-use Rattle.datagram.proofs.ReadLaws.{octets-append, octets-part}
 
 -- ys is the shortest that says what xs says
 pub record Least (xs ys : List ℕ) : Type 0 where
@@ -40,18 +41,6 @@ least-append a b c d v w =
 
 least-longer : (xs ys : List ℕ) → length ys < length xs → Octets ys → Least xs ys
 least-longer xs ys h o = record { shorter = omega arith; same = λ k. absurd (omega (arith, h, k)); octets = o }
-
-pub octets-none : Octets []
-octets-none i = omega arith
-
-pub octets-cons : (x : ℕ) (xs : List ℕ) → x < 256 → Octets xs → Octets (x ∷ xs)
-octets-cons x xs h o zero = h
-octets-cons x xs h o (suc i) = o i
-
-pub octets-be : (w v : ℕ) → Octets (beOctets w v)
-unfolding beOctets
-octets-be zero v = octets-none
-octets-be (suc w) v = octets-append (beOctets w (v / 256)) (v % 256 ∷ []) (octets-be w (v / 256)) (octets-cons (v % 256) [] (omega arith) octets-none)
 
 -- ## Lengths
 

@@ -9,8 +9,9 @@ use lib.Dec.{leb, ltb, eqb}
 use lib.ListN.{length, take, replicate, length-replicate}
 use Rattle.octets.specs.Numbers.{beAt, beOctets}
 use Rattle.octets.specs.Parts.{part, patch}
-use Rattle.octets.proofs.NumberLaws.{Octets, beAt-in, length-beOctets}
+use Rattle.octets.proofs.NumberLaws.{beAt-in, length-beOctets}
 use Rattle.names.specs.SubIds.{nameOctets, Fits}
+use Rattle.names.proofs.SubIdLaws.{octets-name}
 use Rattle.message.specs.declared.request.Binding.{Binding}
 use Rattle.message.specs.Request as request
 use Rattle.message.specs.Request.{kindAllowed, statusAllowed}
@@ -23,12 +24,12 @@ use Rattle.datagram.specs.Reading.{takesOf, Within, boundAt, Reading, refused, 
 use Rattle.datagram.specs.Writing.{nameWritten}
 use Rattle.datagram.proofs.NameLaws.{two-sub-ids}
 use Rattle.datagram.proofs.PlaceLaws.{name-back, name-below, call-read}
-use Rattle.datagram.proofs.ReadLaws.{AllWithin, ReadingTells, reading-tells, octets-append}
+use Rattle.datagram.proofs.ReadLaws.{AllWithin, ReadingTells, reading-tells}
 use Rattle.datagram.proofs.ReadBack.{anyOctets, AllCarriedBy, any-back}
 use Rattle.datagram.proofs.ReadableLaws.{all-carried, length-bound}
 use Rattle.shortest.specs.Theorems.{DatagramOf, Shortest, ShortestEqual, ShortestExists}
 use Rattle.shortest.proofs.InverseLaws.{below-fits}
-use Rattle.shortest.proofs.LeastLaws.{Least, octets-be, octets-none}
+use Rattle.shortest.proofs.LeastLaws.{Least}
 use Rattle.shortest.proofs.RefusalLaws.{ReadingSure, reading-sure}
 use Rattle.shortest.proofs.ShownLaws.{read-least}
 
@@ -70,11 +71,6 @@ same-octets answers m x {kind} {id} {status} {index} {kind′} {id′} {status�
     rw (a, b, c, d, l)
 
 -- ## A name that was read may be written
-
-octets-name : (l : List ℕ) → Octets (nameOctets l)
-unfolding nameOctets
-octets-name [] = octets-none
-octets-name (x ∷ l) = octets-append (beOctets 4 x) (nameOctets l) (octets-be 4 x) (octets-name l)
 
 first-written : (n : ℕ) → (eqb (firstOf n) 2 || (ltb (firstOf n) 2 && ltb (n - 40 * firstOf n) 40)) ≡ true
 first-written n = go (ltb n 80) refl

@@ -10,6 +10,7 @@ use lib.ListN.{length, getD, take}
 use Rattle.octets.specs.Numbers.{beOctets}
 use Rattle.octets.specs.Parts.{part, patch}
 use Rattle.octets.proofs.NumberLaws.{Octets}
+use Rattle.octets.proofs.OctetLaws.{octets-append, octets-none, octets-cons, octets-be}
 use Rattle.names.specs.SubIds.{subids}
 use Rattle.message.specs.Form.{atStatus, atIndex}
 use Rattle.message.specs.declared.request.Binding.{Binding}
@@ -22,11 +23,11 @@ use Rattle.datagram.specs.Reading.{fromDatagram}
 use Rattle.datagram.specs.Writing.{lengthForm, headerForm, berOctets, shortened, goingOn, base128, numbersOctets, firstOne, nameBer, berTag, contentBer, bindingBer, bindingsBer, responseBer, datagramOctets, readResponse, Sent, sentBy, toDatagram}
 use Rattle.datagram.specs.Theorems.{AllCarried}
 use Rattle.datagram.proofs.PlaceLaws.{name-back}
-use Rattle.datagram.proofs.ReadLaws.{octets-append}
 use Rattle.datagram.proofs.ReadBack.{any-response, carried-by}
 use Rattle.datagram.proofs.SentBack.{ReadingOwn, reading-own, sent-reads-back}
+use Rattle.datagram.proofs.ReadableLaws.{nothing}
 use Rattle.shortest.specs.Theorems.{Shortest, WritesShortest}
-use Rattle.shortest.proofs.LeastLaws.{octets-be, octets-none, octets-cons, octets-form}
+use Rattle.shortest.proofs.LeastLaws.{octets-form}
 use Rattle.shortest.proofs.Theorems.{Formed, same-octets, Canonical, canonical}
 
 -- ## What is written is octets
@@ -128,9 +129,6 @@ WrittenOf room x m g =
     × (readResponse m ≡ request.message kind id status index bs) × (mostOctets ≤ length room) × (length m ≤ mostOctets)
     × (length (datagramOctets x id status index (map (boundAt m) bs)) ≤ mostOctets)
     × (take (g .count) (g .room) ≡ datagramOctets x id status index (map (boundAt m) bs))
-
-nothing : {A : Type 0} → 0 < 0 → A
-nothing h = absurd (omega (arith, h))
 
 written-of : (room x m : List ℕ) → WrittenOf room x m (toDatagram room x m)
 unfolding toDatagram sentBy

@@ -8,7 +8,7 @@ use lib.ListN.{length, take, drop}
 use lib.Seq.{take-all}
 use lib.Dec.{leb, eqb}
 use borrow.Author.Tests.{leb-true}
-use Rattle.octets.proofs.PartLaws.{both}
+use Rattle.octets.proofs.BoolLaws.{both}
 use Rattle.names.specs.Table.{placeOf, found, objectAt}
 use Rattle.names.specs.declared.table.Found.{Found}
 use Rattle.names.specs.declared.table.Found.the-variants.{Object, Unknown}

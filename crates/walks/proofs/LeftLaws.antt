@@ -13,13 +13,13 @@ use Rattle.names.specs.Order.{below}
 use Rattle.message.specs.Request.{bindingAt}
 use Rattle.message.specs.declared.request.Binding.{Binding}
 use Rattle.message.specs.declared.request.BindingRead.{BindingRead}
-use Rattle.message.proofs.BindingLaws.{Placed}
+use Rattle.message.proofs.BindingLaws.{Placed, stands}
 use Rattle.message.proofs.FormLaws.{clash}
 use Rattle.walks.specs.declared.walk.Judged.{Judged}
 use Rattle.walks.specs.Walk.{Item, item, nameIn, Walk, faulty, whole, before, itemThen, notAscending, walkFrom, walkOf, judged}
 use Rattle.walks.specs.Turn.{items}
 use Rattle.walks.specs.Compare.{startOf, outlasts}
-use Rattle.walks.proofs.WalkLaws.{stands, from-end, from-step}
+use Rattle.walks.proofs.WalkLaws.{from-end, from-step}
 
 -- from an offset on the walk s is the items xs
 pub record Left (s : List ℕ) (at : ℕ) (xs : List Item) : Type 0 where

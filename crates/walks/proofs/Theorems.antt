@@ -23,14 +23,14 @@ use Rattle.names.proofs.OrderLaws.{below-nil}
 use Rattle.names.proofs.TableLaws.{place-is, place-only}
 use Rattle.message.specs.Request.{bindingAt}
 use Rattle.message.specs.declared.request.BindingRead.{BindingRead}
-use Rattle.message.proofs.BindingLaws.{Placed}
+use Rattle.message.proofs.BindingLaws.{Placed, stands}
 use Rattle.message.proofs.FormLaws.{clash}
 use Rattle.walks.specs.Walk.{Item, item, nameIn, Walk, faulty, whole, before, itemThen, notAscending, walkFrom, walkOf}
 use Rattle.walks.specs.Contrast.{isPorts, portsPlace, shortString, portsColumn, portSets}
 use Rattle.walks.specs.Merge.{Entry, onlyReference, onlyDevice, differing, Merged, merged, listed, listedIf, merge, contrastOf, entryOctets, listOctets, kindOf, total}
 use Rattle.walks.specs.Compare.{Outcome, refusedWith, startOf, outlasts, completed, walkThen, compared, listedIn, tailed}
 use Rattle.walks.specs.Theorems.{In, AllAbove, Ascending, names, entryName, Unnamed, WalksAscend, ReadWhole, FirstAscends, EntriesAscend, TotalsAdd, KindsWritten, OneTail, TailsEnd, OnlyInReference, OnlyInDevice, swapEntry, Exchanged, Swaps, CallExchanged, RefusalKeeps, DifferingInBoth, EqualWalks, UnderPortsColumn, PortsDiffer, OthersDiffer, MissingOctets}
-use Rattle.walks.proofs.WalkLaws.{stands, from-end, from-step}
+use Rattle.walks.proofs.WalkLaws.{from-end, from-step}
 use Rattle.names.proofs.RelationLaws.{related-below, related-same, related-above}
 use Rattle.walks.proofs.MergeLaws.{kindBy, kind-is, merge-none, merge-alone, merge-below, merge-same, merge-above, length-entry, totals-add}
 use Rattle.walks.proofs.InductLaws.{merge-induct, never-below, above-all, above-in, walk-up}

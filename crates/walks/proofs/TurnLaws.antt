@@ -9,7 +9,7 @@ use native.Mathlib.Omega.{arith}
 use borrow.Author.Tests.{lt-ltb, ltb-true}
 use lib.ListN.{length}
 use lib.Dec.{eqb, ltb}
-use Rattle.octets.proofs.PartLaws.{both}
+use Rattle.octets.proofs.BoolLaws.{both}
 use Rattle.message.proofs.FormLaws.{clash}
 use Rattle.names.specs.Order.{relation}
 use Rattle.walks.specs.Walk.{Item, item, walkOf, judged}

@@ -1,6 +1,6 @@
 -- Laws of `specs/Walk.antt`: the reading of a walk turn by turn, and what is left of a walk that was read. Assumes nothing.
 use Prim.Native.Nat.{ℕ, zero, suc, _+_, _-_, _≤_, _<_}
-use mathlib.Core.Path.{_≡_, refl, sym, ap, subst, _∙_}
+use mathlib.Core.Path.{_≡_, refl, sym, ap, _∙_}
 use mathlib.Core.List.{List, []}
 use mathlib.Core.Bool.{true, false}
 use native.Mathlib.Omega.{arith}
@@ -13,13 +13,9 @@ use Rattle.message.specs.Request.{bindingAt}
 use Rattle.message.specs.declared.form.Refusal.{Refusal}
 use Rattle.message.specs.declared.request.Binding.{Binding}
 use Rattle.message.specs.declared.request.BindingRead.{BindingRead}
-use Rattle.message.proofs.BindingLaws.{Placed, BindingTells, binding-tells}
+use Rattle.message.proofs.BindingLaws.{BindingTells, stands}
 use Rattle.walks.specs.declared.walk.Judged.{Judged}
 use Rattle.walks.specs.Walk.{Item, item, nameIn, Walk, faulty, whole, before, itemThen, notAscending, walkFrom, walkOf, judged}
-
--- an answer of `binding_at` that is known by two equations
-pub stands : {s : List ℕ} {at : ℕ} {b : Binding} {next : ℕ} {k : BindingRead} → k ≡ bindingAt 3 s at → k ≡ BindingRead.Bound b next → Placed 3 s at b next
-stands {s} {at} e h = subst (BindingTells 3 s at) (sym e ∙ h) (binding-tells 3 s at)
 
 module _ (s : List ℕ) where
   pub from-end : (left : ℕ) (last : List ℕ) (at : ℕ) → length s ≤ at → walkFrom s left last at ≡ whole []

@@ -6,12 +6,13 @@ use mathlib.Core.Path.{_≡_}
 use lib.ListN.{length, getD}
 use Rattle.message.specs.Request.{noBinding}
 use Rattle.datagram.specs.Writing.{bindingsBer}
-use Rattle.datagram.proofs.SendLaws.{left, binding-most, bers-size, bers-none}
+use Rattle.datagram.proofs.SendLaws.{binding-most, bers-size, bers-none}
 use Rattle.datagram.proofs.sending.bindings_size.Statement.{statement}
 use Rattle.datagram.proofs.sending.bindings_size.Tie as tie
 use Rattle.datagram.proofs.sending.bindings_size.Reads as reads
 use Rattle.datagram.proofs.sending.bindings_size.Lts as lts
 use Rattle.datagram.proofs.sending.bound_size.Reads as bound-size-reads
+use Rattle.datagram.proofs.PlaceLaws.{left}
 
 abbrev Inv-loop : tie.InvT-loop
 Inv-loop s count bindings total₀ i₀ total i = (i ≤ count) × (total ≤ 908 * i) × (total + length (bindingsBer (left s bindings count i)) ≡ length (bindingsBer (left s bindings count 0)))

@@ -1,6 +1,6 @@
 -- `walks::turn::turn_at` meets its contract. Assumes nothing.
+use Rattle.message.proofs.BindingLaws.{stands}
 use Rattle.walks.specs.Turn.{turnAt}
-use Rattle.walks.proofs.WalkLaws.{stands}
 use borrow.Author.Needs.{needs}
 use Rattle.walks.proofs.turn.turn_at.Statement.{statement}
 use Rattle.walks.proofs.turn.turn_at.Tie as tie

@@ -6,7 +6,8 @@ use borrow.Author.Tests.{not-true, not-false}
 use lib.ListN.{length}
 use Rattle.octets.specs.Parts.{part}
 use Rattle.names.specs.SubIds.{subids}
-use Rattle.walks.proofs.WalkLaws.{stands, Sofar, sofar-none, sofar-all, sofar-refused, sofar-falls, sofar-more}
+use Rattle.message.proofs.BindingLaws.{stands}
+use Rattle.walks.proofs.WalkLaws.{Sofar, sofar-none, sofar-all, sofar-refused, sofar-falls, sofar-more}
 use borrow.Author.Needs.{needs}
 use Rattle.walks.proofs.walk.judge.Statement.{statement}
 use Rattle.walks.proofs.walk.judge.Tie as tie
