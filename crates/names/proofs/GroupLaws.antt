@@ -7,7 +7,7 @@ use native.Mathlib.Omega.{arith}
 use lib.Dec.{eqb, ltb}
 use borrow.Author.Tests.{eqb-true, eqb-false, ne-eqb, ltb-true}
 use Rattle.octets.specs.Parts.{same}
-use Rattle.octets.proofs.PartLaws.{both}
+use Rattle.octets.proofs.BoolLaws.{both}
 use Rattle.names.specs.Table.{objectCount, objects}
 use Rattle.names.specs.Places.{basePortIfIndex, bridgeHelloTime, bridgeForwardDelay, stpPortPriority, stpPortEnable, stpPortPathCost, staticReceivePort, staticAllowed, staticState, numTrafficClasses, vlanEgress, vlanForbidden, vlanUntagged, vlanRowStatus, acceptableFrameTypes, ingressFiltering}
 use Rattle.names.specs.Groups.{tableFrom, tableOf}
