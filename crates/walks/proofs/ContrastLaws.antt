@@ -9,7 +9,7 @@ use lib.Seq.{take-all}
 use lib.Dec.{leb, eqb}
 use borrow.Author.Tests.{leb-true}
 use Rattle.octets.proofs.BoolLaws.{both}
-use Rattle.names.specs.Table.{placeOf, found, objectAt}
+use Rattle.names.specs.Table.{placeOf, found, objectAt, objectCount}
 use Rattle.names.specs.declared.table.Found.{Found}
 use Rattle.names.specs.declared.table.Found.the-variants.{Object, Unknown}
 use Rattle.names.specs.declared.table.ObjectType.{ObjectType}
@@ -18,7 +18,7 @@ use Rattle.names.proofs.TableLaws.{place-is, toldPlace, place-told}
 use Rattle.walks.specs.Contrast.{isPorts, portsPlace, portsColumn, shortString, portSets}
 
 -- a place that is told is one of the table
-pub place-fits : (name : List ℕ) (i : ℕ) {r : Found} → r ≡ found (placeOf name) → r ≡ Object i → i < 35
+pub place-fits : (name : List ℕ) (i : ℕ) {r : Found} → r ≡ found (placeOf name) → r ≡ Object i → i < objectCount
 place-fits name i e h = place-is name i (place-told (placeOf name) e ∙ ap toldPlace h) .0
 
 -- an object type's syntax decides whether it holds port sets

@@ -16,7 +16,7 @@ use Rattle.octets.specs.Ports.{member, setOf}
 use Rattle.octets.proofs.PartLaws.{same-refl, same-eq, eqb-swap, same-swap}
 use Rattle.octets.proofs.PortLaws.{members-same, set-lt, set-zeros}
 use Rattle.names.specs.Order.{below, isPrefix}
-use Rattle.names.specs.Table.{objectAt, typeName, placeOf}
+use Rattle.names.specs.Table.{objectCount, objectAt, typeName, placeOf}
 use Rattle.names.specs.declared.table.Syntax.{Syntax}
 use Rattle.names.proofs.SubIdLaws.{subids-step}
 use Rattle.names.proofs.OrderLaws.{below-nil}
@@ -417,11 +417,11 @@ pub under-ports-column : UnderPortsColumn
 unfolding portsColumn
 under-ports-column name = (to (placeOf name) refl, from)
   where
-    to : (x : Option ℕ) → placeOf name ≡ x → portsPlace x ≡ true → (i : ℕ) × (i < 35) × (objectAt i .syntax ≡ Syntax.Ports) × (isPrefix (typeName (objectAt i)) name ≡ true)
+    to : (x : Option ℕ) → placeOf name ≡ x → portsPlace x ≡ true → (i : ℕ) × (i < objectCount) × (objectAt i .syntax ≡ Syntax.Ports) × (isPrefix (typeName (objectAt i)) name ≡ true)
     to none p e = absurd (false≢true e)
     to (some i) p e = let q = place-is name i p in (i, q .0, ports-is (objectAt i .syntax) e, q .1)
 
-    from : (i : ℕ) × (i < 35) × (objectAt i .syntax ≡ Syntax.Ports) × (isPrefix (typeName (objectAt i)) name ≡ true) → portsPlace (placeOf name) ≡ true
+    from : (i : ℕ) × (i < objectCount) × (objectAt i .syntax ≡ Syntax.Ports) × (isPrefix (typeName (objectAt i)) name ≡ true) → portsPlace (placeOf name) ≡ true
     from r = ap portsPlace (place-only name (r .0) (r .1) (r .3)) ∙ ap isPorts (r .2)
 
 -- an instance of both walks
