@@ -15,7 +15,7 @@ use Rattle.names.proofs.SubIdLaws.{octets-name}
 use Rattle.message.specs.declared.request.Binding.{Binding}
 use Rattle.message.specs.Request as request
 use Rattle.message.specs.Request.{kindAllowed, statusAllowed}
-use Rattle.message.specs.Answer.{Bound, messageOctets, mostOctets}
+use Rattle.message.specs.Answer.{Bound, messageOctets, mostOctets, boundAt as formBoundAt}
 use Rattle.message.specs.Theorems as form
 use Rattle.message.proofs.FormLaws.{cond-cases}
 use Rattle.message.proofs.ReadBack.{any-reads-back}
@@ -50,10 +50,10 @@ form-carried kind (b ∷ bs) w = (w .0 .carried, form-carried kind bs (w .1))
 
 -- what the message form reads of it
 pub formed-reads : {answers : Bool} {m : List ℕ} {kind id status index : ℕ} {bs : List Bound} → Formed answers m kind id status index bs
-    → (rs : List Binding) × (request.readMessage (takesOf answers) m ≡ request.message kind id status index rs) × (map (form.boundAt m) rs ≡ bs)
+    → (rs : List Binding) × (request.readMessage (takesOf answers) m ≡ request.message kind id status index rs) × (map (formBoundAt m) rs ≡ bs)
 formed-reads {answers} {m} {kind} {id} {status} {index} {bs} w =
     let (rs, p, q) = any-reads-back (takesOf answers) kind id status index bs (w .taken) (w .quiet) (w .small) (w .few) (form-carried kind bs (w .carried)) in
-    (rs, ap (request.readMessage (takesOf answers)) (w .is) ∙ p, ap (λ (u : List ℕ). map (form.boundAt u) rs) (w .is) ∙ q)
+    (rs, ap (request.readMessage (takesOf answers)) (w .is) ∙ p, ap (λ (u : List ℕ). map (formBoundAt u) rs) (w .is) ∙ q)
 
 -- the parts of a message are its own, so there is one shortest form of it
 pub same-octets : (answers : Bool) (m x : List ℕ) {kind id status index kind′ id′ status′ index′ : ℕ} {bs bs′ : List Bound} → Formed answers m kind id status index bs
@@ -67,7 +67,7 @@ same-octets answers m x {kind} {id} {status} {index} {kind′} {id′} {status�
     let c : status ≡ status′ = cc in
     let d : index ≡ index′ = cc in
     let r : rs ≡ rs′ = cc in
-    let l : bs ≡ bs′ = sym q ∙ ap (map (form.boundAt m)) r ∙ q′ in
+    let l : bs ≡ bs′ = sym q ∙ ap (map (formBoundAt m)) r ∙ q′ in
     rw (a, b, c, d, l)
 
 -- ## A name that was read may be written
