@@ -7,7 +7,7 @@ use native.Mathlib.Omega.{arith}
 use native.Mathlib.Numerals.{add-one}
 use borrow.Author.Tests.{leb-true, leb-false, eqb-true, le-leb, lt-leb, lt-ltb, le-ltb}
 use lib.Dec.{leb, eqb}
-use lib.ListN.{length, getD, take, drop, replicate, length-append, length-replicate, List·getD-append}
+use lib.ListN.{length, getD, take, drop, replicate, length-append, length-replicate, length-take, drop-of-length-le, List·getD-append}
 use lib.Seq.{drop-cons, drop-at, take-at, getD-take, length-take-le}
 use Rattle.octets.specs.Numbers.{beOctets}
 use Rattle.octets.specs.Parts.{part, patch}
@@ -32,7 +32,7 @@ use Rattle.datagram.specs.declared.response.Answers.{Answers}
 use Rattle.datagram.specs.Writing.{lengthForm, headerForm, berOctets, shortened, nameBer, berTag, contentBer, bindingBer, bindingsBer, responseBer, responseFields, responseFront, datagramFields, datagramFront, datagramOctets, nameWritten, responseIn, responseAt, responsesFrom, responseHead, readResponse, answersOf, Writable, Ready, Put, notSent, sent, sentBy, toDatagram}
 use Rattle.datagram.proofs.BerLaws.{part-length}
 use Rattle.datagram.proofs.WriteLaws.{field-before, two-before, header-most, name-most, content-most, shortened-most, binding-is}
-use Rattle.datagram.proofs.PlaceLaws.{name-back, left, left-none}
+use Rattle.datagram.proofs.PlaceLaws.{name-back}
 
 -- ## What is put
 
@@ -107,6 +107,12 @@ pub binding-put : (s : List ℕ) (b : Binding) {a a₀ a₁ a₂ : List ℕ} {c 
 binding-put s b {a} {a₂ = a₂} {p = p} r m e w h v f = subst (Put a a₂ r p) (binding-is s b m (berTag (b .tag)) e refl) (put-field (put-two w h v) h 0x30 r f)
 
 -- ## The bindings, from the first to the last
+
+abbrev pub left : List ℕ → List Binding → (count i : ℕ) → List Bound
+left s bs count i = map (boundAt s) (drop i (take count bs))
+
+pub left-none : (s : List ℕ) (bs : List Binding) (count i : ℕ) → count ≤ i → left s bs count i ≡ []
+left-none s bs count i h = rw (drop-of-length-le (take count bs) {i = i} (omega (arith, length-take count bs)))
 
 module _ (s : List ℕ) (bs : List Binding) (count i : ℕ) (h : i < count) (k : count ≤ length bs) where
   bers-turn : bindingsBer (left s bs count i) ≡ bindingBer (boundAt s (getD bs i noBinding)) ++ bindingsBer (left s bs count (i + 1))

@@ -12,7 +12,7 @@ use Rattle.datagram.proofs.sending.bindings_size.Tie as tie
 use Rattle.datagram.proofs.sending.bindings_size.Reads as reads
 use Rattle.datagram.proofs.sending.bindings_size.Lts as lts
 use Rattle.datagram.proofs.sending.bound_size.Reads as bound-size-reads
-use Rattle.datagram.proofs.PlaceLaws.{left}
+use Rattle.datagram.proofs.SendLaws.{left}
 
 abbrev Inv-loop : tie.InvT-loop
 Inv-loop s count bindings total₀ i₀ total i = (i ≤ count) × (total ≤ 908 * i) × (total + length (bindingsBer (left s bindings count i)) ≡ length (bindingsBer (left s bindings count 0)))

@@ -12,7 +12,7 @@ use Rattle.datagram.proofs.sending.put_bindings.Tie as tie
 use Rattle.datagram.proofs.sending.put_bindings.Reads as reads
 use Rattle.datagram.proofs.sending.put_bindings.Lts as lts
 use Rattle.datagram.proofs.sending.put_bound.Reads as put-bound-reads
-use Rattle.datagram.proofs.PlaceLaws.{left}
+use Rattle.datagram.proofs.SendLaws.{left}
 
 abbrev Inv-loop : tie.InvT-loop
 Inv-loop room₀ from s count bindings to₀ i₀ room to i = (i ≤ count) × (length room ≡ length room₀) × (to + length (bindingsBer (left s bindings count i)) ≡ from + length (bindingsBer (left s bindings count 0))) × (patch room to (bindingsBer (left s bindings count i)) ≡ patch room₀ from (bindingsBer (left s bindings count 0)))
