@@ -15,7 +15,7 @@ use lib.Seq.{drop-cons}
 use borrow.Author.Tests.{leb-true, le-leb, lt-leb}
 use Rattle.octets.specs.Numbers.{beAt}
 use Rattle.octets.proofs.NumberLaws.{Octets, beAt-more, beAt-one}
-use Rattle.octets.proofs.PartLaws.{both}
+use Rattle.octets.proofs.BoolLaws.{both}
 use Rattle.names.specs.Index.{canHave, index}
 use Rattle.names.specs.declared.Shape.{Shape}
 use Rattle.block.specs.Image.{staticAt, contentOf}

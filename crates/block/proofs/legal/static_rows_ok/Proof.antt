@@ -1,7 +1,7 @@
 -- `block::legal::static_rows_ok` meets its contract. The invariant: the answer is that of the rows left. Assumes nothing.
-use mathlib.Core.Path.{_≡_, refl, sym, _∙_}
+use mathlib.Core.Path.{_≡_, refl, sym, subst, _∙_}
 use mathlib.Core.Bool.{Bool, _&&_}
-use Prim.Native.Nat.{_+_, _*_, _≤_, _<_, _-_}
+use Prim.Native.Nat.{_+_, _*_, _^_, _≤_, _<_, _-_}
 use native.Mathlib.Omega.{arith}
 use lib.Dec.{leb}
 use lib.ListN.{drop, getD}
@@ -13,7 +13,9 @@ use Rattle.block.specs.Image.{contentOf}
 use Rattle.block.specs.Valid.{every, rowOk, staticOk}
 use Rattle.block.specs.Lookup.{noStatic}
 use Rattle.block.proofs.ReadLaws.{many-statics}
-use Rattle.block.proofs.LegalLaws.{static-key-lt, static-can}
+use Rattle.block.specs.declared.tables.Table.the-variants.{Static as static}
+use Rattle.block.proofs.StandingLaws.{key-at, key-small}
+use Rattle.block.proofs.LegalLaws.{static-can}
 use Rattle.block.proofs.AscendLaws.{each-turn, each-end, port-is}
 use borrow.Author.Needs.{needs}
 use Rattle.block.proofs.legal.static_rows_ok.Statement.{statement}
@@ -71,10 +73,11 @@ turn c =
     let i = c .before .before .before .before .loop .i in
     let there : i < beAt b 12 4 = omega (arith, many-statics b) in
     let octets : Octets b = λ j. omega (arith, c .before .before .before .before .before .before .shared-slice-known .given j) in
+    let small = subst (λ k. k < 256 ^ 7) (key-at (contentOf b .statics) i (noStatic .1)) (key-small b static i octets (omega arith)) in
     c .before .before .before .before .loop .inv .1
     ∙ rw (
       each-turn (rowOk (a .n) Static (staticOk (a .n))) (contentOf b .statics) i noStatic (omega arith),
-      static-can (a .n) _ (static-key-lt b i noStatic octets there),
+      static-can (a .n) _ small,
       port-is b i noStatic there octets,
       ← c .before .static-entry .ensures,
       ← c .static-ok .ensures,

@@ -6,7 +6,7 @@ use native.Mathlib.Omega.{arith}
 use lib.Dec.{leb}
 use lib.ListN.{length, drop, getD}
 use borrow.Author.Tests.{leb-true}
-use Rattle.octets.proofs.PartLaws.{both}
+use Rattle.octets.proofs.BoolLaws.{both}
 use Rattle.block.specs.Image.{contentOf}
 use Rattle.block.specs.Valid.{staticStatus, ascends}
 use Rattle.block.specs.Lookup.{noStatic}
