@@ -5,7 +5,7 @@ use mathlib.Core.List.{List}
 use Prim.Native.Nat.{ℕ, _≤_, _<_}
 use lib.Dec.{eqb, lit≤}
 use borrow.Author.Tests.{eqb-true, eqb-false, eq-eqb}
-use Rattle.names.specs.Table.{objects}
+use Rattle.names.specs.Table.{objects, objectCount}
 use Rattle.names.specs.Places.{bridgeMaxAge, bridgeHelloTime, bridgeForwardDelay, isTimer}
 use Rattle.names.proofs.IndexLaws.{can-scalar}
 use Rattle.block.specs.Layout.{manyCells}
@@ -29,9 +29,9 @@ by-timer P a h d t e = first (eqb t bridgeMaxAge) refl e
     first false q r = second (eqb t bridgeHelloTime) refl r
 
 -- a timer is one of the object types, and its cell is one of the cells
-pub timer-place : (t : ℕ) → isTimer t ≡ true → (t < 35) × (cellOf t 0 < manyCells)
+pub timer-place : (t : ℕ) → isTimer t ≡ true → (t < objectCount) × (cellOf t 0 < manyCells)
 unfolding objects cellsIn
-timer-place = by-timer (λ t. (t < 35) × (cellOf t 0 < manyCells)) (lit≤ tt, lit≤ tt) (lit≤ tt, lit≤ tt) (lit≤ tt, lit≤ tt)
+timer-place = by-timer (λ t. (t < objectCount) × (cellOf t 0 < manyCells)) (lit≤ tt, lit≤ tt) (lit≤ tt, lit≤ tt) (lit≤ tt, lit≤ tt)
 
 -- its instance with the key 0 has that cell, on every bridge
 pub timer-has : (n t : ℕ) → isTimer t ≡ true → HasCell n t 0

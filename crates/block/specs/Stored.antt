@@ -3,7 +3,7 @@ use mathlib.Core.Path.{_≡_}
 use Prim.Native.Nat.{ℕ, _^_, _≤_, _<_}
 use lib.ListN.{length}
 use Rattle.names.specs.Ascending.{All}
-use Rattle.block.specs.Content.{Content, Shape}
+use Rattle.block.specs.Content.{Content, WellFormed}
 use Rattle.block.specs.declared.rows.VlanRow.{VlanRow}
 use Rattle.block.specs.declared.rows.StaticRow.{StaticRow}
 
@@ -25,7 +25,7 @@ pub record StaticFits (e : ℕ × StaticRow) : Type 0 where
 
 -- a content whose numbers have room in the octets of its image
 pub record Storable (c : Content) : Type 0 where
-  pub shape : Shape c
+  pub shape : WellFormed c
   pub fewPorts : c .ports ≤ 64
   pub editionFits : c .edition < 256 ^ 1
   pub addressSize : length (c .address) ≡ 6

@@ -9,7 +9,7 @@ use lib.ListN.{length, take, drop, getD, set, length-append, length-drop}
 use lib.Seq.{drop-cons, take-length, take-append-seam, length-take-le, getD-append-add, getD-drop}
 use Rattle.names.specs.Ascending.{All, Rising}
 use Rattle.names.proofs.AllLaws.{all-append, all-take, all-drop}
-use Rattle.block.specs.Content.{Content, Shape, withStatics}
+use Rattle.block.specs.Content.{Content, WellFormed, withStatics}
 use Rattle.block.specs.Image.{image, contentOf}
 use Rattle.block.specs.Lookup.{Sized, keysOf, noStatic}
 use Rattle.block.specs.declared.rows.StaticRow.{StaticRow}
@@ -177,7 +177,7 @@ turned-storable c i s h =
 pub stored-held : (c : Content) → Storable c → {b : List ℕ} → b ≡ image c → (contentOf b ≡ c) × Held b
 stored-held c s {b} e =
     let r : contentOf b ≡ c = ap contentOf e ∙ contentOf-stored c s in
-    (r, record { same = ap image r ∙ sym e; shape = subst Shape (sym r) (s .shape) })
+    (r, record { same = ap image r ∙ sym e; shape = subst WellFormed (sym r) (s .shape) })
 
 pub held-sized : {b : List ℕ} → Held b → Sized b
 held-sized {b} h =

@@ -4,7 +4,7 @@ use mathlib.Core.Path.{_≡_}
 use mathlib.Core.Bool.{cond}
 use mathlib.Core.List.{List, _++_}
 use lib.ListN.{length, drop, getD}
-use Rattle.block.specs.Content.{Content, Shape, staticPut}
+use Rattle.block.specs.Content.{Content, WellFormed, staticPut}
 use Rattle.block.specs.Image.{image, contentOf}
 use Rattle.block.specs.Lookup.{noStatic}
 use Rattle.block.specs.declared.rows.StaticRow.{StaticRow}
@@ -17,7 +17,7 @@ closing xs es = stay xs ++ drop (length (stay xs)) es
 -- octets that are the image of the content that they say
 pub record Held (b : List ℕ) : Type 0 where
   pub same : image (contentOf b) ≡ b
-  pub shape : Shape (contentOf b)
+  pub shape : WellFormed (contentOf b)
 
 -- a turn: the row at place i is written at place j if it stays; and the next place
 abbrev pub rowAt : Content → ℕ → ℕ × StaticRow

@@ -4,7 +4,7 @@ ghost use Prim.Native.Nat.{_<_, _≤_};
 ghost use mathlib.Core.Bool.{true};
 ghost use lib.ListN.{length, take};
 ghost use Rattle.block.specs.Layout.{blockSize, mostRows};
-ghost use Rattle.block.specs.Content.{Content, Shape, withStatics};
+ghost use Rattle.block.specs.Content.{Content, WellFormed, withStatics};
 ghost use Rattle.block.specs.Image.{image, contentOf};
 ghost use Rattle.block.specs.Valid.{legal};
 ghost use Rattle.reset.specs.Reset.{stay, afterReset};
@@ -55,7 +55,7 @@ fn close_up(block: &mut [u8]) -> usize
 // Takes all static rows from place kept on out.
 fn cut(block: &mut [u8], kept: usize)
     requires { ⌜ (length (now block) ≡ blockSize) × (length (contentOf (now block) .statics) ≤ mostRows) × (kept ≤ length (contentOf (now block) .statics)) ⌝ }
-    ensures { λ _. ⌜ ((c : Content) → Shape c → kept ≤ length (c .statics) → now (block .entry) ≡ image c → now (block .exit) ≡ image (withStatics c (take kept (c .statics)))) ⌝ }
+    ensures { λ _. ⌜ ((c : Content) → WellFormed c → kept ≤ length (c .statics) → now (block .entry) ≡ image c → now (block .exit) ≡ image (withStatics c (take kept (c .statics)))) ⌝ }
 {
     let n = row_count(block, Table::Static);
     let from = kept * STATIC_WIDTH;

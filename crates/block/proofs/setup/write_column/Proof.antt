@@ -5,7 +5,7 @@ use native.Mathlib.Omega.{arith}
 use lib.ListN.{length}
 use Rattle.names.specs.Table.{objectAt}
 use Rattle.block.specs.Cells.{cellsOf, liveCells, firstCell}
-use Rattle.block.specs.Content.{Content, Shape}
+use Rattle.block.specs.Content.{Content, WellFormed}
 use Rattle.block.specs.Image.{image}
 use Rattle.block.proofs.FreshLaws.{columnTo, column-none, column-room, column-shape, column-more, column-all}
 use Rattle.block.proofs.setup.write_column.Statement.{statement}
@@ -14,7 +14,7 @@ use Rattle.block.proofs.setup.write_column.Tie as tie
 abbrev Inv-loop : tie.InvT-loop
 Inv-loop block₀ n i live total first j₀ block j =
     (live ≡ liveCells n (objectAt i .shape)) × (total ≡ cellsOf (objectAt i)) × (first ≡ firstCell i) × (j ≤ total) × (length block ≡ 32768)
-    × ((c : Content) → Shape c → block₀ ≡ image c → block ≡ image (columnTo n c i j))
+    × ((c : Content) → WellFormed c → block₀ ≡ image c → block ≡ image (columnTo n c i j))
 
 abbrev μ-loop : tie.MeasureT-loop
 μ-loop block₀ n i live total first j₀ block j = total - j
