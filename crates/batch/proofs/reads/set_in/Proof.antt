@@ -23,11 +23,11 @@ shared-slice-read-if1 c = omega (arith, kind-fits (c .before .before .before .be
 returns : tie.Need-returns
 returns c = set-other (c .before .before .before .before .before .before .args .m .now) (c .before .before .before .before .checked-at .ensures) (c .before .before .enum-told .given .1) (c .if1 .taken)
 
-request-of-requires : tie.Need-request-of-requires
-request-of-requires c κs = search needs
+outcome-of-requires : tie.Need-outcome-of-requires
+outcome-of-requires c κs = search needs
 
-enum-known-outcome : tie.Need-enum-known-outcome
-enum-known-outcome c = search needs
+enum-known-r-2 : tie.Need-enum-known-r-2
+enum-known-r-2 c = search needs
 
 enum-told-2 : tie.Need-enum-told-2
 enum-told-2 c = search needs
@@ -40,14 +40,14 @@ returns-3 c =
     let q = c .before .before .before in
     let s = q .before .before .before .before .before .before .before .args .m .now in
     set-refused s (q .before .before .before .before .before .checked-at .ensures) (q .before .before .before .enum-told .given .1) (q .before .if1 .left)
-    (held-refused s (q .request-of .ensures) (c .before .outcome .given .1) .0)
+    (held-refused s refl (sym (q .outcome-of .ensures) ∙ c .before .r2 .given .1) .0)
 
 returns-4 : tie.Need-returns-4
 returns-4 c =
     let q = c .before .before in
     let s = q .before .before .before .before .before .before .before .args .m .now in
     set-taken s (q .before .before .before .before .before .checked-at .ensures) (q .before .before .before .enum-told .given .1) (q .before .if1 .left)
-    (held s (q .request-of .ensures) (c .enum-told2 .given .1) .reading)
+    (held s refl (sym (q .outcome-of .ensures) ∙ c .enum-told2 .given .1) .reading)
 
 pub set-in-spec : {M : Type 1} → statement M
 set-in-spec =
@@ -58,8 +58,8 @@ set-in-spec =
     enum-told
     shared-slice-read-if1
     returns
-    request-of-requires
-    enum-known-outcome
+    outcome-of-requires
+    enum-known-r-2
     enum-told-2
     returns-2
     returns-3

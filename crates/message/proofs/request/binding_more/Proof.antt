@@ -24,7 +24,7 @@ stopped-requires-2 c κs = search needs
 
 returns : tie.Need-returns
 unfolding bindingMore
-returns c = rw (c .before .before .before .before .outcome2 .given .1, le-leb mostBindings _ (c .before .before .if1 .taken)) (c .stopped2 .ensures ∙ ap (stoppedAt (c .before .before .before .before .before .before .before .before .args .s .now)) (c .before .seventeenth-at .ensures))
+returns c = rw (c .before .before .before .before .outcome2 .given .1, le-leb mostBindings _ (c .before .before .if1 .taken)) (c .stopped2 .ensures ∙ ap (stoppedAt (c .before .before .before .before .before .before .before .args .s .now)) (c .before .seventeenth-at .ensures))
 
 binding-at-requires : tie.Need-binding-at-requires
 binding-at-requires c κs = search needs
@@ -35,17 +35,11 @@ enum-known-r c = search needs
 stopped-requires-3 : tie.Need-stopped-requires-3
 stopped-requires-3 c κs = search needs
 
-enum-known-binding : tie.Need-enum-known-binding
-enum-known-binding c = search needs
+enum-known-next : tie.Need-enum-known-next
+enum-known-next c = search needs
 
-mul-bindings : tie.Need-mul-bindings
-mul-bindings c = search needs
-
-array-set-from-bindings : tie.Need-array-set-from-bindings
-array-set-from-bindings c = search needs
-
-add-t18 : tie.Need-add-t18
-add-t18 c = search needs
+add-t16 : tie.Need-add-t16
+add-t16 c = search needs
 
 returns-2 : tie.Need-returns-2
 unfolding bindingMore
@@ -57,7 +51,7 @@ returns-3 c = rw (c .before .before .before .before .before .before .before .out
 
 returns-4 : tie.Need-returns-4
 unfolding bindingMore
-returns-4 c = rw (c .before .before .before .before .before .before .outcome2 .given .1, lt-leb mostBindings _ (c .before .before .before .before .if1 .left), ← c .before .before .before .binding-at .ensures, c .before .binding .given .1)
+returns-4 c = rw (c .before .before .before .before .before .before .outcome2 .given .1, lt-leb mostBindings _ (c .before .before .before .before .if1 .left), ← c .before .before .before .binding-at .ensures, c .before .next .given .1)
 
 pub binding-more-spec : {M : Type 1} → statement M
 binding-more-spec =
@@ -72,10 +66,8 @@ binding-more-spec =
     binding-at-requires
     enum-known-r
     stopped-requires-3
-    enum-known-binding
-    mul-bindings
-    array-set-from-bindings
-    add-t18
+    enum-known-next
+    add-t16
     returns-2
     returns-3
     returns-4)
