@@ -8,22 +8,18 @@ use mathlib.Core.List.{List, [], _∷_}
 use lib.ListN.{length}
 use Rattle.octets.proofs.BoolLaws.{by-bool}
 use lib.Dec.{eqb}
-use borrow.Author.Tests.{eqb-true, eq-eqb}
-use Rattle.octets.specs.Parts.{zeros}
+use borrow.Author.Tests.{eq-eqb}
 use Rattle.octets.proofs.NumberLaws.{Octets}
 use Rattle.names.specs.Index.{canHave, index}
-use Rattle.names.specs.Table.{objectAt}
-use Rattle.names.specs.Instances.{instanceName}
 use Rattle.names.specs.Ascending.{All}
 use Rattle.block.specs.Content.{Content, modelOf}
 use Rattle.block.specs.Lookup.{lookup}
 use Rattle.block.specs.Valid.{valid, testOf}
-use Rattle.block.proofs.ValidParts.{Valid, valid-parts}
+use Rattle.block.proofs.ValidParts.{valid-parts}
 use Rattle.block.proofs.KeepLaws.{rowsOk-lookup}
-use Rattle.answer.specs.Values.{Value}
 use Rattle.answer.specs.Get.{get}
 use Rattle.answer.specs.Writes.{field, isStatus, present, ordered, playRow}
-use Rattle.block.specs.Tables.{Row, rowsOf, shapeOf, hasTable, roomIn}
+use Rattle.block.specs.Tables.{Row, rowsOf, shapeOf, hasTable}
 use Rattle.block.specs.declared.tables.Table.{Table}
 use Rattle.block.specs.declared.tables.Table.the-variants.{Vlan as vlan, Static as static, Pair as pair}
 use Rattle.answer.specs.Tables.{create, state, destroy, name, egress, forbidden, untagged, keep, drop, allowed, paired, unpaired, bridgeNumber, Status, Field, ColumnOf, columnPlace, madeVlan, statusStep, fieldStep, step}
