@@ -3,8 +3,8 @@ use Prim.Native.Nat.{ℕ, _+_, _^_, _<_}
 use native.Mathlib.Numerals.{add-one}
 use native.Mathlib.Omega.{arith}
 use mathlib.Core.Path.{_≡_, refl, sym, ap, _∙_}
-use mathlib.Core.Bool.{Bool, true, false, cond, _&&_}
-use mathlib.Core.Option.{Option, none, some, Option·none-ne-some}
+use mathlib.Core.Bool.{Bool, true, false, cond, _&&_, false≢true}
+use mathlib.Core.Option.{Option, some}
 use mathlib.Core.List.{List, [], _∷_, _++_, map-append}
 use lib.Dec.{eqb}
 use lib.ListN.{length, getD, take, set}
@@ -16,25 +16,30 @@ use Rattle.block.specs.Layout.{manyCells}
 use Rattle.block.specs.Content.{Content}
 use Rattle.block.specs.Cells.{cellOf, timerIn}
 use Rattle.block.proofs.TimerLaws.{by-timer, timer-place}
-use Rattle.block.specs.declared.tables.Table.{Table}
 use Rattle.answer.specs.Judge.{Judged}
 use Rattle.answer.specs.Set.{cellWrite, also, gather, setCells, resultingCells}
 use Rattle.answer.proofs.OnlyWriteLaws.{gather-append, cells-append, cells-length}
 use Rattle.set.specs.Steps.{columnIn, meant, meantBy, OwnCell}
+use Rattle.set.specs.declared.columns.Holder.{Holder}
+use Rattle.set.specs.declared.columns.Holder.the-variants.{Cells, Rows}
 use Rattle.set.specs.declared.judge.Step.{Step}
 
 -- a timer is no column of a growing table
-timer-no-column : (t : ℕ) → isTimer t ≡ true → columnIn t ≡ none
-timer-no-column = by-timer (λ t. columnIn t ≡ none) refl refl refl
+timer-no-column : (t : ℕ) → isTimer t ≡ true → columnIn t ≡ Cells
+timer-no-column = by-timer (λ t. columnIn t ≡ Cells) refl refl refl
+
+abbrev inRows : Holder → Bool
+inRows Cells = false
+inRows (Rows t) = true
 
 -- the number that a step makes of the timer at place t
 abbrev pub timerBy : (t v : ℕ) → Step → ℕ
 timerBy t v q = cond (eqb (q .fault) 0 && eqb (q .place) t) (q .value) v
 
 module _ (s : List ℕ) (q : Step) (t : ℕ) (timer : isTimer t ≡ true)
-    (fits : q .fault ≡ 0 → columnIn (q .place) ≡ none → OwnCell (q .place) (q .key)) (l : List ℕ) (long : length l ≡ manyCells) where
+    (fits : q .fault ≡ 0 → columnIn (q .place) ≡ Cells → OwnCell (q .place) (q .key)) (l : List ℕ) (long : length l ≡ manyCells) where
   -- what a step writes to a cell
-  writes : eqb (q .fault) 0 ≡ true → columnIn (q .place) ≡ none → cellWrite (meant s q) ≡ some (cellOf (q .place) (q .key), q .value)
+  writes : eqb (q .fault) 0 ≡ true → columnIn (q .place) ≡ Cells → cellWrite (meant s q) ≡ some (cellOf (q .place) (q .key), q .value)
   writes e n = rw (e, n)
 
   -- one step written
@@ -42,12 +47,12 @@ module _ (s : List ℕ) (q : Step) (t : ℕ) (timer : isTimer t ≡ true)
   unfolding setCells
   timer-one = by-bool (eqb (q .fault) 0) (λ e. go (columnIn (q .place)) refl e) (λ e. rw e)
     where
-      go : (o : Option Table) → columnIn (q .place) ≡ o → eqb (q .fault) 0 ≡ true
+      go : (o : Holder) → columnIn (q .place) ≡ o → eqb (q .fault) 0 ≡ true
           → getD (setCells l (also (cellWrite (meant s q)) [])) (cellOf t 0) 0 ≡ timerBy t (getD l (cellOf t 0) 0) q
-      go (some u) n e =
-          let z : eqb (q .place) t ≡ false = ne-eqb (q .place) t (λ p. Option·none-ne-some u (sym (timer-no-column t timer) ∙ ap columnIn (sym p) ∙ n)) in
+      go (Rows u) n e =
+          let z : eqb (q .place) t ≡ false = ne-eqb (q .place) t (λ p. false≢true (ap inRows (sym (timer-no-column t timer) ∙ ap columnIn (sym p) ∙ n))) in
           rw (e, n, z)
-      go none n e =
+      go Cells n e =
           let own : eqb (cellOf (q .place) (q .key)) (cellOf t 0) ≡ eqb (q .place) t = fits (eqb-true (q .fault) 0 e) n t timer in
           ap (λ (w : Option (ℕ × ℕ)). getD (setCells l (also w [])) (cellOf t 0) 0) (writes e n)
           ∙ by-bool (eqb (q .place) t)
@@ -57,7 +62,7 @@ module _ (s : List ℕ) (q : Step) (t : ℕ) (timer : isTimer t ≡ true)
           (getD-set-other l (cellOf (q .place) (q .key)) (cellOf t 0) (q .value) 0 (λ r. eqb-false (cellOf (q .place) (q .key)) (cellOf t 0) (own ∙ p) (sym r))))
 
 -- a step that writes a timer has a number of four octets, and writes no other timer's cell
-pub timer-fits : (q : Step) (t : ℕ) → isTimer t ≡ true → (q .fault ≡ 0 → columnIn (q .place) ≡ none → (q .value < 2 ^ 32) × OwnCell (q .place) (q .key))
+pub timer-fits : (q : Step) (t : ℕ) → isTimer t ≡ true → (q .fault ≡ 0 → columnIn (q .place) ≡ Cells → (q .value < 2 ^ 32) × OwnCell (q .place) (q .key))
     → (eqb (q .fault) 0 && eqb (q .place) t) ≡ true → q .value < 2 ^ 32
 timer-fits q t timer fits e =
     let p = both (eqb (q .fault) 0) (eqb (q .place) t) e in
@@ -65,7 +70,7 @@ timer-fits q t timer fits e =
 
 -- the resulting timer after one more step
 pub timer-more : (c : Content) (s : List ℕ) (steps : List Step) (i : ℕ) (d : Step) (t : ℕ) → i < length steps → isTimer t ≡ true → length (c .cells) ≡ manyCells
-    → (getD steps i d .fault ≡ 0 → columnIn (getD steps i d .place) ≡ none → OwnCell (getD steps i d .place) (getD steps i d .key))
+    → (getD steps i d .fault ≡ 0 → columnIn (getD steps i d .place) ≡ Cells → OwnCell (getD steps i d .place) (getD steps i d .key))
     → timerIn (resultingCells c (meantBy s steps (i + 1))) t ≡ timerBy t (timerIn (resultingCells c (meantBy s steps i)) t) (getD steps i d)
 unfolding gather
 timer-more c s steps i d t h timer long fits =

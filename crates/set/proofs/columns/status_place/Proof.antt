@@ -1,7 +1,7 @@
--- `set::faults::status_place` meets its contract. Assumes nothing.
+-- `set::columns::status_place` meets its contract. Assumes nothing.
 use borrow.Author.Needs.{needs}
-use Rattle.set.proofs.faults.status_place.Statement.{statement}
-use Rattle.set.proofs.faults.status_place.Tie as tie
+use Rattle.set.proofs.columns.status_place.Statement.{statement}
+use Rattle.set.proofs.columns.status_place.Tie as tie
 
 enum-told : tie.Need-enum-told
 enum-told c = search needs
