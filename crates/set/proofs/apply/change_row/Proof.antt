@@ -16,10 +16,10 @@ use Rattle.block.specs.declared.tables.Table.the-variants.{Vlan as vlan, Static
 use Rattle.answer.specs.Tables.{ColumnOf, step, removes}
 use Rattle.set.specs.Steps.{statusPlace, statusOf, columnAt, ColumnFits}
 use Rattle.set.specs.Phases.{RowFits}
-use Rattle.set.proofs.AskedLaws.{length-part}
-use Rattle.set.proofs.ColumnLaws.{static-small}
-use Rattle.set.proofs.WholeLaws.{whole-few, written-sized}
-use Rattle.set.proofs.FoundLaws.{found-inside, set-becomes}
+use Rattle.set.proofs.judge.AskedLaws.{length-part}
+use Rattle.set.proofs.columns.ColumnLaws.{static-small}
+use Rattle.set.proofs.apply.WholeLaws.{whole-few, written-sized}
+use Rattle.set.proofs.apply.FoundLaws.{found-inside, set-becomes}
 use borrow.Author.Needs.{needs}
 use Rattle.set.proofs.apply.change_row.Statement.{statement}
 use Rattle.set.proofs.apply.change_row.Tie as tie

@@ -3,7 +3,7 @@ use mathlib.Core.Path.{sym}
 use native.Mathlib.Omega.{arith}
 use borrow.Author.Needs.{needs}
 use Rattle.block.specs.declared.tables.Table.the-variants.{Static as static}
-use Rattle.set.proofs.ColumnLaws.{status-made}
+use Rattle.set.proofs.columns.ColumnLaws.{status-made}
 use Rattle.set.proofs.apply.made_static.Statement.{statement}
 use Rattle.set.proofs.apply.made_static.Tie as tie
 

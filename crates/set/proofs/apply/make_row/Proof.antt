@@ -15,9 +15,9 @@ use Rattle.answer.specs.Writes.{status}
 use Rattle.answer.specs.Tables.{statusStep, makes}
 use Rattle.set.specs.Steps.{statusOf, keyRoom, ColumnFits}
 use Rattle.set.specs.Phases.{Written}
-use Rattle.set.proofs.ColumnLaws.{static-small}
-use Rattle.set.proofs.WholeLaws.{written-sized}
-use Rattle.set.proofs.FoundLaws.{absent-inside, insert-becomes}
+use Rattle.set.proofs.columns.ColumnLaws.{static-small}
+use Rattle.set.proofs.apply.WholeLaws.{written-sized}
+use Rattle.set.proofs.apply.FoundLaws.{absent-inside, insert-becomes}
 use borrow.Author.Needs.{needs}
 use Rattle.set.proofs.apply.make_row.Statement.{statement}
 use Rattle.set.proofs.apply.make_row.Tie as tie

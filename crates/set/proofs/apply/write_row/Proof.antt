@@ -14,9 +14,9 @@ use Rattle.block.specs.Tables.{rowsOf, most}
 use Rattle.block.specs.declared.rows.Place.the-variants.{At, Absent}
 use Rattle.answer.specs.Tables.{ColumnOf, makes, removes}
 use Rattle.set.specs.Steps.{statusPlace, statusOf, columnAt}
-use Rattle.set.proofs.ColumnLaws.{madeAt, column-drops, column-makes, column-none}
-use Rattle.set.proofs.WholeLaws.{whole-few, written-sized, written-ascends}
-use Rattle.set.proofs.FoundLaws.{noRow, found-inside, remove-becomes, stays}
+use Rattle.set.proofs.columns.ColumnLaws.{madeAt, column-drops, column-makes, column-none}
+use Rattle.set.proofs.apply.WholeLaws.{whole-few, written-sized, written-ascends}
+use Rattle.set.proofs.apply.FoundLaws.{noRow, found-inside, remove-becomes, stays}
 use borrow.Author.Needs.{needs}
 use Rattle.set.proofs.apply.write_row.Statement.{statement}
 use Rattle.set.proofs.apply.write_row.Tie as tie

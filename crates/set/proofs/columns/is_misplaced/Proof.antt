@@ -1,7 +1,7 @@
 -- `set::columns::is_misplaced` meets its contract: by the table. Assumes nothing.
 use mathlib.Core.Path.{sym}
 use borrow.Author.Needs.{needs}
-use Rattle.set.proofs.ColumnLaws.{misplaced-vlan}
+use Rattle.set.proofs.columns.ColumnLaws.{misplaced-vlan}
 use Rattle.set.proofs.columns.is_misplaced.Statement.{statement}
 use Rattle.set.proofs.columns.is_misplaced.Tie as tie
 

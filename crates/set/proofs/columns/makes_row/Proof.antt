@@ -1,7 +1,7 @@
 -- `set::columns::makes_row` meets its contract: by the table. Assumes nothing.
 use mathlib.Core.Path.{sym}
 use borrow.Author.Needs.{needs}
-use Rattle.set.proofs.ColumnLaws.{makes-vlan, makes-static}
+use Rattle.set.proofs.columns.ColumnLaws.{makes-vlan, makes-static}
 use Rattle.set.proofs.columns.makes_row.Statement.{statement}
 use Rattle.set.proofs.columns.makes_row.Tie as tie
 

@@ -1,7 +1,7 @@
 -- `set::columns::removes_row` meets its contract: by the table. Assumes nothing.
 use mathlib.Core.Path.{sym}
 use borrow.Author.Needs.{needs}
-use Rattle.set.proofs.ColumnLaws.{removes-vlan, removes-static}
+use Rattle.set.proofs.columns.ColumnLaws.{removes-vlan, removes-static}
 use Rattle.set.proofs.columns.removes_row.Statement.{statement}
 use Rattle.set.proofs.columns.removes_row.Tie as tie
 

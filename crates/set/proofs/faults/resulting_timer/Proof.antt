@@ -14,7 +14,7 @@ use Rattle.answer.specs.Set.{gather, setCells, resultingCells}
 use Rattle.set.specs.Steps.{meantBy}
 use Rattle.set.specs.declared.judge.Step.{Step}
 use Rattle.set.proofs.LeftLaws.{pastEnd}
-use Rattle.set.proofs.TimerLaws.{timerBy, timer-fits, timer-more}
+use Rattle.set.proofs.faults.TimerLaws.{timerBy, timer-fits, timer-more}
 use Rattle.set.proofs.faults.resulting_timer.Statement.{statement}
 use Rattle.set.proofs.faults.resulting_timer.Tie as tie
 
