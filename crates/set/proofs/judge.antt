@@ -1,5 +1,5 @@
 -- The laws about bindings judged by themselves.
 pub mod AskedLaws
 pub mod SaidLaws
-pub mod StepLaws
+pub mod KeptLaws
 pub mod JudgedLaws

@@ -3,8 +3,8 @@ ghost use mathlib.Core.Path.{_≡_};
 ghost use mathlib.Core.Bool.{_||_};
 ghost use lib.Dec.{eqb};
 ghost use Rattle.answer.specs.Tables.{makes, removes, misplaced};
-ghost use Rattle.set.specs.Steps.{statusPlace, columnIn, statusOf, isStatusOf};
-use super::judge::Step;
+ghost use Rattle.set.specs.Kept.{statusPlace, columnIn, statusOf, isStatusOf};
+use super::judge::Kept;
 use block::tables::Table;
 use names::places::STATIC_ALLOWED;
 use names::places::STATIC_STATE;
@@ -40,8 +40,8 @@ pub fn column_in(place: usize) -> Holder
     Holder::Cells
 }
 
-// Whether a step writes the status column of a table.
-pub fn is_status_of(t: Table, q: Step) -> bool
+// Whether a kept binding writes the status column of a table.
+pub fn is_status_of(t: Table, q: Kept) -> bool
     ensures { λ r. ⌜ r ≡ isStatusOf t q ⌝ }
 {
     (q.fault == 0) & (q.place as usize == status_place(t))

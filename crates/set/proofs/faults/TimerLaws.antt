@@ -1,4 +1,4 @@
--- The timers that result from the steps of a message (E6): one more step at a time. Assumes nothing.
+-- The timers that result from the kept bindings of a message (E6): one more kept binding at a time. Assumes nothing.
 use Prim.Native.Nat.{ℕ, _+_, _^_, _<_}
 use native.Mathlib.Numerals.{add-one}
 use native.Mathlib.Omega.{arith}
@@ -19,10 +19,10 @@ use Rattle.block.proofs.TimerLaws.{by-timer, timer-place}
 use Rattle.answer.specs.Judge.{Judged}
 use Rattle.answer.specs.Set.{cellWrite, also, gather, setCells, resultingCells}
 use Rattle.answer.proofs.OnlyWriteLaws.{gather-append, cells-append, cells-length}
-use Rattle.set.specs.Steps.{columnIn, meant, meantBy, OwnCell}
+use Rattle.set.specs.Kept.{columnIn, meant, meantBy, OwnCell}
 use Rattle.set.specs.declared.columns.Holder.{Holder}
 use Rattle.set.specs.declared.columns.Holder.the-variants.{Cells, Rows}
-use Rattle.set.specs.declared.judge.Step.{Step}
+use Rattle.set.specs.declared.judge.Kept.{Kept}
 
 -- a timer is no column of a growing table
 timer-no-column : (t : ℕ) → isTimer t ≡ true → columnIn t ≡ Cells
@@ -32,17 +32,17 @@ abbrev inRows : Holder → Bool
 inRows Cells = false
 inRows (Rows t) = true
 
--- the number that a step makes of the timer at place t
-abbrev pub timerBy : (t v : ℕ) → Step → ℕ
+-- the number that a kept binding makes of the timer at place t
+abbrev pub timerBy : (t v : ℕ) → Kept → ℕ
 timerBy t v q = cond (eqb (q .fault) 0 && eqb (q .place) t) (q .value) v
 
-module _ (s : List ℕ) (q : Step) (t : ℕ) (timer : isTimer t ≡ true)
+module _ (s : List ℕ) (q : Kept) (t : ℕ) (timer : isTimer t ≡ true)
     (fits : q .fault ≡ 0 → columnIn (q .place) ≡ Cells → OwnCell (q .place) (q .key)) (l : List ℕ) (long : length l ≡ manyCells) where
-  -- what a step writes to a cell
+  -- what a kept binding writes to a cell
   writes : eqb (q .fault) 0 ≡ true → columnIn (q .place) ≡ Cells → cellWrite (meant s q) ≡ some (cellOf (q .place) (q .key), q .value)
   writes e n = rw (e, n)
 
-  -- one step written
+  -- one kept binding written
   timer-one : getD (setCells l (also (cellWrite (meant s q)) [])) (cellOf t 0) 0 ≡ timerBy t (getD l (cellOf t 0) 0) q
   unfolding setCells
   timer-one = by-bool (eqb (q .fault) 0) (λ e. go (columnIn (q .place)) refl e) (λ e. rw e)
@@ -61,23 +61,23 @@ module _ (s : List ℕ) (q : Step) (t : ℕ) (timer : isTimer t ≡ true)
           (λ p. rw (e, p)
           (getD-set-other l (cellOf (q .place) (q .key)) (cellOf t 0) (q .value) 0 (λ r. eqb-false (cellOf (q .place) (q .key)) (cellOf t 0) (own ∙ p) (sym r))))
 
--- a step that writes a timer has a number of four octets, and writes no other timer's cell
-pub timer-fits : (q : Step) (t : ℕ) → isTimer t ≡ true → (q .fault ≡ 0 → columnIn (q .place) ≡ Cells → (q .value < 2 ^ 32) × OwnCell (q .place) (q .key))
+-- a kept binding that writes a timer has a number of four octets, and writes no other timer's cell
+pub timer-fits : (q : Kept) (t : ℕ) → isTimer t ≡ true → (q .fault ≡ 0 → columnIn (q .place) ≡ Cells → (q .value < 2 ^ 32) × OwnCell (q .place) (q .key))
     → (eqb (q .fault) 0 && eqb (q .place) t) ≡ true → q .value < 2 ^ 32
 timer-fits q t timer fits e =
     let p = both (eqb (q .fault) 0) (eqb (q .place) t) e in
     fits (eqb-true (q .fault) 0 (p .0)) (ap columnIn (eqb-true (q .place) t (p .1)) ∙ timer-no-column t timer) .0
 
--- the resulting timer after one more step
-pub timer-more : (c : Content) (s : List ℕ) (steps : List Step) (i : ℕ) (d : Step) (t : ℕ) → i < length steps → isTimer t ≡ true → length (c .cells) ≡ manyCells
-    → (getD steps i d .fault ≡ 0 → columnIn (getD steps i d .place) ≡ Cells → OwnCell (getD steps i d .place) (getD steps i d .key))
-    → timerIn (resultingCells c (meantBy s steps (i + 1))) t ≡ timerBy t (timerIn (resultingCells c (meantBy s steps i)) t) (getD steps i d)
+-- the resulting timer after one more kept binding
+pub timer-more : (c : Content) (s : List ℕ) (kept : List Kept) (i : ℕ) (d : Kept) (t : ℕ) → i < length kept → isTimer t ≡ true → length (c .cells) ≡ manyCells
+    → (getD kept i d .fault ≡ 0 → columnIn (getD kept i d .place) ≡ Cells → OwnCell (getD kept i d .place) (getD kept i d .key))
+    → timerIn (resultingCells c (meantBy s kept (i + 1))) t ≡ timerBy t (timerIn (resultingCells c (meantBy s kept i)) t) (getD kept i d)
 unfolding gather
-timer-more c s steps i d t h timer long fits =
-    let before : List Judged = meantBy s steps i in
-    let last : List Judged = meant s (getD steps i d) ∷ [] in
-    let more : meantBy s steps (i + 1) ≡ before ++ last = rw (add-one, take-suc steps i d h) (map-append (meant s) (take i steps) (getD steps i d ∷ [])) in
+timer-more c s kept i d t h timer long fits =
+    let before : List Judged = meantBy s kept i in
+    let last : List Judged = meant s (getD kept i d) ∷ [] in
+    let more : meantBy s kept (i + 1) ≡ before ++ last = rw (add-one, take-suc kept i d h) (map-append (meant s) (take i kept) (getD kept i d ∷ [])) in
     ap (λ (m : List Judged). timerIn (resultingCells c m) t) more
     ∙ ap (λ (ws : List (ℕ × ℕ)). timerIn (setCells (c .cells) ws) t) (gather-append cellWrite before last)
     ∙ ap (λ (x : List ℕ). timerIn x t) (cells-append (c .cells) (gather cellWrite before) (gather cellWrite last))
-    ∙ timer-one s (getD steps i d) t timer fits (resultingCells c before) (cells-length (c .cells) (gather cellWrite before) ∙ long)
+    ∙ timer-one s (getD kept i d) t timer fits (resultingCells c before) (cells-length (c .cells) (gather cellWrite before) ∙ long)

@@ -14,7 +14,7 @@ use Rattle.block.specs.declared.rows.Place.the-variants.{At}
 use Rattle.block.specs.declared.tables.Table.{Table}
 use Rattle.block.specs.declared.tables.Table.the-variants.{Vlan as vlan, Static as static}
 use Rattle.answer.specs.Tables.{ColumnOf, step, removes}
-use Rattle.set.specs.Steps.{statusPlace, statusOf, columnAt, ColumnFits}
+use Rattle.set.specs.Kept.{statusPlace, statusOf, columnAt, ColumnFits}
 use Rattle.set.specs.Phases.{RowFits}
 use Rattle.set.proofs.judge.AskedLaws.{length-part}
 use Rattle.set.proofs.columns.ColumnLaws.{static-small}
@@ -35,7 +35,7 @@ Asked t c =
 asked : {t : Table} (c : tie.Start) → c .args .t ≡ t → Asked t c
 asked c e = subst (λ (u : Table). Asked u c) e (c .pre)
 
--- the octets that the step writes, the change of a column that it is, and the number of ports
+-- the octets that the kept binding writes, the change of a column that it is, and the number of ports
 abbrev octets : tie.Start → List ℕ
 octets c = part (c .args .request .now) (c .args .q .at) (c .args .q .len)
 

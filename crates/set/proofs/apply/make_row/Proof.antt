@@ -13,7 +13,7 @@ use Rattle.block.specs.declared.tables.Table.{Table}
 use Rattle.block.specs.declared.tables.Table.the-variants.{Vlan as vlan, Static as static}
 use Rattle.answer.specs.Writes.{status}
 use Rattle.answer.specs.Tables.{statusStep, makes}
-use Rattle.set.specs.Steps.{statusOf, keyRoom, ColumnFits}
+use Rattle.set.specs.Kept.{statusOf, keyRoom, ColumnFits}
 use Rattle.set.specs.Phases.{Written}
 use Rattle.set.proofs.columns.ColumnLaws.{static-small}
 use Rattle.set.proofs.apply.WholeLaws.{written-sized}

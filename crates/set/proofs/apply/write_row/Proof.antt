@@ -13,7 +13,7 @@ use Rattle.block.specs.Lookup.{keysOf, findKey}
 use Rattle.block.specs.Tables.{rowsOf, most}
 use Rattle.block.specs.declared.rows.Place.the-variants.{At, Absent}
 use Rattle.answer.specs.Tables.{ColumnOf, makes, removes}
-use Rattle.set.specs.Steps.{statusPlace, statusOf, columnAt}
+use Rattle.set.specs.Kept.{statusPlace, statusOf, columnAt}
 use Rattle.set.proofs.columns.ColumnLaws.{madeAt, column-drops, column-makes, column-none}
 use Rattle.set.proofs.apply.WholeLaws.{whole-few, written-sized, written-ascends}
 use Rattle.set.proofs.apply.FoundLaws.{noRow, found-inside, remove-becomes, stays}
@@ -21,7 +21,7 @@ use borrow.Author.Needs.{needs}
 use Rattle.set.proofs.apply.write_row.Statement.{statement}
 use Rattle.set.proofs.apply.write_row.Tie as tie
 
--- the octets that the step writes, the change of a column that it is, and the number of ports
+-- the octets that the kept binding writes, the change of a column that it is, and the number of ports
 abbrev octets : tie.Start → List ℕ
 octets c = part (c .args .request .now) (c .args .q .at) (c .args .q .len)
 
@@ -104,7 +104,7 @@ makes-row-requires c κs = search needs
 has-room-requires : tie.Need-has-room-requires
 has-room-requires c κs = written-sized (c .before .before .before .before .before .before .before .before .before .before .before .pre .written) .long
 
--- the step writes the status column, makes a row by it, and the table has room for the row
+-- the kept binding writes the status column, makes a row by it, and the table has room for the row
 made : (c : tie.Then2) → let a = c .before .before .before .before .before .before .before .before .before .before .before .before .before .args in
     (eqb (a .q .place) (statusPlace (a .t)) ≡ true)
     × (makes (a .t) (statusOf (a .t) (a .q .value)) ≡ true)
