@@ -9,7 +9,7 @@ use borrow.Author.Tests.{eqb-true, eqb-false, ne-eqb, ltb-true}
 use Rattle.octets.specs.Parts.{same}
 use Rattle.octets.proofs.BoolLaws.{both}
 use Rattle.names.specs.Table.{objectCount, objects}
-use Rattle.names.specs.Places.{basePortIfIndex, bridgeHelloTime, bridgeForwardDelay, stpPortPriority, stpPortEnable, stpPortPathCost, staticReceivePort, staticAllowed, staticState, numTrafficClasses, vlanEgress, vlanForbidden, vlanUntagged, vlanRowStatus, acceptableFrameTypes, ingressFiltering}
+use Rattle.names.specs.Places.{basePortIfIndex, bridgeHelloTime, bridgeForwardDelay, stpPortPriority, stpPortEnable, stpPortPathCost, pairHighPort, pairBridgeNum, pairBridgeState, staticReceivePort, staticAllowed, staticState, numTrafficClasses, vlanEgress, vlanForbidden, vlanUntagged, vlanRowStatus, acceptableFrameTypes, ingressFiltering}
 use Rattle.names.specs.Groups.{tableFrom, tableOf}
 
 -- a test of the n numbers below n
@@ -37,6 +37,7 @@ table-below i h = ltb-true (tableOf i) objectCount (holds-at (λ j. ltb (tableOf
 abbrev followers : List ℕ
 followers =
     ingressFiltering ∷ acceptableFrameTypes ∷ vlanRowStatus ∷ vlanUntagged ∷ vlanForbidden ∷ vlanEgress ∷ numTrafficClasses ∷ staticState ∷ staticAllowed ∷ staticReceivePort
+    ∷ pairBridgeState ∷ pairBridgeNum ∷ pairHighPort
     ∷ stpPortPathCost ∷ stpPortEnable ∷ stpPortPriority ∷ bridgeForwardDelay ∷ bridgeHelloTime ∷ basePortIfIndex ∷ []
 
 abbrev isIn : ℕ → List ℕ → Bool

@@ -1,6 +1,6 @@
 -- What a name leads to, as the code finds it, and what a target says of its name. Assumes nothing.
 use mathlib.Core.Path.{_≡_, refl, sym, ap, subst, _∙_}
-use mathlib.Core.Bool.{true}
+use mathlib.Core.Bool.{Bool, true, false, cond}
 use mathlib.Core.Option.{Option, none, some}
 use mathlib.Core.List.{List, _++_}
 use Prim.Native.Nat.{ℕ, _+_, _-_, _*_, _≤_, _<_}
@@ -9,9 +9,11 @@ use lib.ListN.{length, take, drop, length-append}
 use lib.Seq.{drop-at}
 use Rattle.names.specs.SubIds.{subids}
 use Rattle.names.specs.Index.{canHave, index, keyIn, answered}
+use Rattle.names.specs.Devices.{has}
 use Rattle.names.specs.Table.{objectCount, objectAt, typeName, placeOf}
 use Rattle.names.specs.Instances.{instanceName}
-use Rattle.names.specs.Targets.{restOf, targetAt, targetUnder, targetIn}
+use Rattle.names.specs.Targets.{restOf, targetAt, targetUnder, onModel, targetIn}
+use Rattle.names.specs.declared.model.Model.{Model}
 use Rattle.names.specs.declared.Shape.{Shape}
 use Rattle.names.specs.declared.Key.{Key}
 use Rattle.names.specs.declared.Key.the-variants.{At as KeyAt, Nothing}
@@ -33,6 +35,19 @@ told-answered : (x : Option ℕ) → toldKey (answered x) ≡ x
 told-answered none = refl
 told-answered (some k) = refl
 
+-- what the device says of the object o at place i decides
+module _ (m : Model) (i : ℕ) (name : List ℕ) {o : ObjectType} {b : Bool} (f : o ≡ objectAt i) (g : b ≡ has (m .device) o) where
+  by-device : targetUnder (m .ports) name (onModel m (some i)) ≡ targetUnder (m .ports) name (cond b (some i) none)
+  by-device = ap (λ (t : Bool). targetUnder (m .ports) name (cond t (some i) none)) (sym (g ∙ ap (has (m .device)) f))
+
+  -- the name of an object that the device has not leads nowhere
+  pub target-foreign : b ≡ false → targetUnder (m .ports) name (onModel m (some i)) ≡ Unknown
+  target-foreign e = by-device ∙ ap (λ (t : Bool). targetUnder (m .ports) name (cond t (some i) none)) e
+
+  -- where the device has it, the rest of the name decides
+  pub target-own : b ≡ true → targetUnder (m .ports) name (onModel m (some i)) ≡ targetAt i (keyIn (m .ports) (objectAt i .shape) (restOf i name))
+  target-own e = by-device ∙ ap (λ (t : Bool). targetUnder (m .ports) name (cond t (some i) none)) e
+
 -- what the key that the code finds in the octets s of a name says, where o is the object type at place i
 pub target-found : (n i : ℕ) (s : List ℕ) {o : ObjectType} {r : Key} → o ≡ objectAt i
     → r ≡ answered (keyIn n (o .shape) (subids (take (length s - 4 * (7 + o .len)) (drop (4 * (7 + o .len)) s))))
@@ -50,38 +65,47 @@ place-fits s i e =
     omega (arith, l, length-typeName i, subids-count s)
 
 -- what a target says of the name that leads to it
-abbrev pub Tells : ℕ → List ℕ → Target → Type 0
-Tells n name Unknown = Unit
-Tells n name (NoIndex i) = i < objectCount
-Tells n name (At i k) =
-    (i < objectCount) × (name ≡ instanceName (objectAt i) k) × (canHave n (objectAt i .shape) (index (objectAt i .shape) k) ≡ true)
+abbrev pub Tells : Model → List ℕ → Target → Type 0
+Tells m name Unknown = Unit
+Tells m name (NoIndex i) = (i < objectCount) × (has (m .device) (objectAt i) ≡ true)
+Tells m name (At i k) =
+    (i < objectCount) × (name ≡ instanceName (objectAt i) k) × (canHave (m .ports) (objectAt i .shape) (index (objectAt i .shape) k) ≡ true)
+    × (has (m .device) (objectAt i) ≡ true)
 
-tells : (n : ℕ) (name : List ℕ) → n ≤ 64 → Tells n name (targetIn n name)
-tells n name few = go (placeOf name) refl
+tells : (m : Model) (name : List ℕ) → m .ports ≤ 64 → Tells m name (targetIn m name)
+tells m name few = go (placeOf name) refl
   where
-    by-key : (i : ℕ) → placeOf name ≡ some i → (x : Option ℕ) → keyIn n (objectAt i .shape) (restOf i name) ≡ x → Tells n name (targetAt i x)
-    by-key i e none q = place-is name i e .0
-    by-key i e (some k) q =
-        let r = keyIn-back n (objectAt i .shape) (restOf i name) k few q in (
+    by-key : (i : ℕ) → placeOf name ≡ some i → has (m .device) (objectAt i) ≡ true → (x : Option ℕ)
+        → keyIn (m .ports) (objectAt i .shape) (restOf i name) ≡ x → Tells m name (targetAt i x)
+    by-key i e h none q = (place-is name i e .0, h)
+    by-key i e h (some k) q =
+        let r = keyIn-back (m .ports) (objectAt i .shape) (restOf i name) k few q in (
           place-is name i e .0,
           place-rest name i e ∙ ap (λ (l : List ℕ). typeName (objectAt i) ++ l) (r .0),
-          subst (λ (l : List ℕ). canHave n (objectAt i .shape) l ≡ true) (r .0) (r .2),
+          subst (λ (l : List ℕ). canHave (m .ports) (objectAt i .shape) l ≡ true) (r .0) (r .2),
+          h,
         )
 
-    go : (p : Option ℕ) → placeOf name ≡ p → Tells n name (targetUnder n name p)
-    go none e = tt
-    go (some i) e = by-key i e (keyIn n (objectAt i .shape) (restOf i name)) refl
+    by-device : (i : ℕ) → placeOf name ≡ some i → (t : Bool) → has (m .device) (objectAt i) ≡ t
+        → Tells m name (targetUnder (m .ports) name (cond t (some i) none))
+    by-device i e true h = by-key i e h (keyIn (m .ports) (objectAt i .shape) (restOf i name)) refl
+    by-device i e false h = tt
 
--- a place of the object table; and where it has a key, the name is that of the instance, which the bridge can have
-pub target-tells : (n : ℕ) (name : List ℕ) → n ≤ 64 → {t : Target} → t ≡ targetIn n name → Tells n name t
-target-tells n name few e = subst (Tells n name) (sym e) (tells n name few)
+    go : (p : Option ℕ) → placeOf name ≡ p → Tells m name (targetUnder (m .ports) name (onModel m p))
+    go none e = tt
+    go (some i) e = by-device i e (has (m .device) (objectAt i)) refl
+
+-- a place of the object table whose object the device has; and where it has a key, the name is that of the instance, which the bridge can have
+pub target-tells : (m : Model) (name : List ℕ) → m .ports ≤ 64 → {t : Target} → t ≡ targetIn m name → Tells m name t
+target-tells m name few e = subst (Tells m name) (sym e) (tells m name few)
 
 -- the name of an instance that the bridge can have leads to it
-pub target-instance : (n i k : ℕ) → i < objectCount → canHave n (objectAt i .shape) (index (objectAt i .shape) k) ≡ true
-    → targetIn n (instanceName (objectAt i) k) ≡ At i k
-target-instance n i k l can =
+pub target-instance : (m : Model) (i k : ℕ) → i < objectCount → canHave (m .ports) (objectAt i .shape) (index (objectAt i .shape) k) ≡ true
+    → has (m .device) (objectAt i) ≡ true → targetIn m (instanceName (objectAt i) k) ≡ At i k
+target-instance m i k l can own =
     let s : Shape = objectAt i .shape in
     let x : List ℕ = instanceName (objectAt i) k in
     let rest : restOf i x ≡ index s k = drop-at (typeName (objectAt i)) (index s k) (7 + objectAt i .len) (length-typeName i) in
-    ap (targetUnder n x) (place-only x i l (prefix-append (typeName (objectAt i)) (index s k)))
-    ∙ ap (λ (l : List ℕ). targetAt i (keyIn n s l)) rest ∙ ap (targetAt i) (keyIn-index n s k can)
+    ap (λ (p : Option ℕ). targetUnder (m .ports) x (onModel m p)) (place-only x i l (prefix-append (typeName (objectAt i)) (index s k)))
+    ∙ ap (λ (b : Bool). targetUnder (m .ports) x (cond b (some i) none)) own
+    ∙ ap (λ (l : List ℕ). targetAt i (keyIn (m .ports) s l)) rest ∙ ap (targetAt i) (keyIn-index (m .ports) s k can)

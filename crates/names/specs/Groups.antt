@@ -9,7 +9,7 @@ use Rattle.octets.specs.Parts.{same}
 use Rattle.names.specs.Table.{objects, objectAt, prefixOf}
 use Rattle.names.specs.Places.{bridgeMaxAge, isTimer}
 use Rattle.names.specs.declared.Shape.{Shape}
-use Rattle.names.specs.declared.Shape.the-variants.{Scalar, Port, PortPriority, Vlan, Static}
+use Rattle.names.specs.declared.Shape.the-variants.{Scalar, Port, PortPriority, Vlan, Static, Pair}
 use Rattle.names.specs.declared.table.ObjectType.{ObjectType}
 
 abbrev pub isScalar : Shape → Bool
@@ -18,6 +18,7 @@ isScalar Port = false
 isScalar PortPriority = false
 isScalar Vlan = false
 isScalar Static = false
+isScalar Pair = false
 
 -- "a row is a table with an index this bridge can have, named by any of its columns; a scalar is named by its whole name": the columns of one table differ
 -- in their last sub-id alone

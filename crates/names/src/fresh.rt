@@ -21,6 +21,7 @@ pub fn fresh_value(place: usize, j: usize) -> u32
         places::STP_PORT_PRIORITY => 128,
         places::STP_PORT_ENABLE => 1,
         places::STP_PORT_PATH_COST => 100,
+        places::SR_PORT_LARGEST_FRAME => 1470,
         places::AGING_TIME => 300,
         places::DEFAULT_USER_PRIORITY => 0,
         places::REGEN_USER_PRIORITY => (j % PRIORITIES) as u32,
