@@ -9,24 +9,32 @@ ghost use Rattle.block.specs.Layout.{blockSize};
 ghost use Rattle.block.specs.Rows.{rowsAt};
 ghost use Rattle.block.specs.Image.{contentOf};
 ghost use Rattle.block.specs.Lookup.{Sized, findKey, placeIn, Ascending, halving, keysOf};
-ghost use Rattle.block.specs.Tables.{rowsOf, most, standing};
+ghost use Rattle.block.specs.Tables.{rowsOf, most, standing, deviceOf, roomIn, endOf};
+use super::layout::AT_PAIR_COUNT;
+use super::layout::AT_PAIRS;
 use super::layout::AT_STATIC_COUNT;
 use super::layout::AT_STATICS;
 use super::layout::AT_VLAN_COUNT;
 use super::layout::AT_VLANS;
+use super::layout::MOST_PAIRS;
 use super::layout::MOST_ROWS;
+use super::layout::PAIR_KEY;
+use super::layout::PAIR_WIDTH;
 use super::layout::STATIC_KEY;
 use super::layout::STATIC_WIDTH;
 use super::layout::VLAN_KEY;
 use super::layout::VLAN_WIDTH;
 use super::rows::Place;
 use names::Key;
+use names::device::SOURCE_ROUTING;
+use names::device::TRANSPARENT;
 use octets::numbers::be;
 use octets::numbers::be4;
 
 pub enum Table {
     Vlan,
     Static,
+    Pair,
 }
 
 // Where a table stands: the offset of its row count and of its first row, how many octets a row and a row's key have, and how many rows there is room for.
@@ -62,7 +70,36 @@ pub fn standing_of(t: Table) -> Standing
             key: STATIC_KEY,
             most: MOST_ROWS,
         },
+        Table::Pair => Standing {
+            count: AT_PAIR_COUNT,
+            rows: AT_PAIRS,
+            width: PAIR_WIDTH,
+            key: PAIR_KEY,
+            most: MOST_PAIRS,
+        },
     }
+}
+
+// The device that has a table.
+fn device_of(t: Table) -> u32
+    ensures { λ r. ⌜ r ≡ deviceOf t ⌝ }
+{
+    match t {
+        Table::Vlan => TRANSPARENT,
+        Table::Static => TRANSPARENT,
+        Table::Pair => SOURCE_ROUTING,
+    }
+}
+
+// How many rows a table has room for on a device.
+pub fn room_in(device: u32, t: Table) -> usize
+    ensures { λ r. ⌜ r ≡ roomIn device t ⌝ }
+{
+    if device == device_of(t) {
+        let at = standing_of(t);
+        return at.most;
+    }
+    0
 }
 
 // How many rows a table has.
@@ -72,6 +109,15 @@ pub fn row_count(block: &[u8], t: Table) -> usize
 {
     let at = standing_of(t);
     be4(block, at.count) as usize
+}
+
+// The index behind a table's last row.
+pub fn end_of(block: &[u8], t: Table) -> usize
+    requires { ⌜ Sized (now block) ⌝ }
+    ensures { λ r. ⌜ r ≡ endOf t (now (block .entry)) ⌝ }
+{
+    let at = standing_of(t);
+    at.rows + row_count(block, t) * at.width
 }
 
 // Whether there is room for one more row.
