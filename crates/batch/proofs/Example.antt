@@ -43,7 +43,7 @@ use Rattle.batch.specs.declared.RbBatch.{RbBatch}
 use Rattle.batch.specs.Check.{accepted, refusedWith, offending, shortOf, readSet, eachRead, firstWith, firstPair, isShort, framesJudged, checkBatch}
 use Rattle.batch.specs.Theorems.{framed, Accepted}
 use Rattle.batch.specs.Order.{Turn, Plays, SameInAll}
-use Rattle.batch.specs.Example.{three, maxAge, helloTime, tenAgain, Batches}
+use Rattle.batch.specs.Example.{three, maxAge, helloTime, tenAgain, Batches, routing, pairNumber, pairState, pairsWith, sixteenOf, pairs64, PairBatches}
 use Rattle.batch.proofs.CheckLaws.{accepts-exactly}
 use Rattle.batch.proofs.AcceptLaws.{any-order}
 
@@ -52,7 +52,7 @@ on-image : (c : Content) (batch : List ℕ) → valid c ≡ true → checkBatch 
 unfolding checkBatch
 on-image c batch v = rw (legal-image c v) (ap (λ (d : Content). framesJudged d (framesOf mostFrames batch)) (contentOf-image c v))
 
--- the content matters by its ports and its rows' keys alone, which are known
+-- the content matters by its model and its rows' keys alone, which are known
 abbrev judgedOn : List ℕ → List ℕ → RbBatch
 judgedOn a batch = framesJudged (fresh fourPorts a) (framesOf mostFrames batch)
 
@@ -77,7 +77,7 @@ computed a = (refl, refl, refl, refl, refl, refl, refl, refl, refl, refl, refl, 
 
 pub batches : (a : List ℕ) → length a ≡ 6 → every isOctet a ≡ true → Batches a
 batches a l o =
-    let v : valid (fresh fourPorts a) ≡ true = valid-fresh fourPorts a (lit≤ tt) (lit≤ tt) refl l o in
+    let v : valid (fresh fourPorts a) ≡ true = valid-fresh fourPorts a refl l o in
     let c = computed a in
     let takes : checkBatch (image (fresh fourPorts a)) (framed three) ≡ accepted = on-image (fresh fourPorts a) (framed three) v ∙ c .1 in
     record {
@@ -100,6 +100,33 @@ batches a l o =
     in-all c w e u xs ys p q =
         let m : three ≡ w .messages = ap (λ (f : List (List ℕ) × ℕ). f .0) (sym e ∙ w .framed) in
         any-order (image c) (framed three) (octets-every (framed three) u) w xs ys (subst (λ (ms : List (List ℕ)). Plays ms xs) m p) (subst (λ (ms : List (List ℕ)). Plays ms ys) m q)
+
+-- batches of a source-routing bridge
+abbrev judgedRouting : List ℕ → List ℕ → RbBatch
+judgedRouting a batch = framesJudged (fresh routing a) (framesOf mostFrames batch)
+
+pairs-computed : (a : List ℕ)
+    → (judgedRouting a (framed (setOf (pairNumber 1 2 5 ∷ pairState 1 2 1 ∷ []) ∷ sixteenOf 2 ∷ setOf (pairNumber 1 2 6 ∷ []) ∷ [])) ≡ offending 1 3)
+    × (judgedRouting a (framed (setOf (pairNumber 2 1 5 ∷ []) ∷ setOf (pairNumber 2 1 5 ∷ []) ∷ [])) ≡ accepted)
+    × (judgedRouting a (framed pairs64) ≡ accepted)
+    × (judgedRouting a (framed (pairs64 ++ (setOf (pairState 5 6 1 ∷ []) ∷ []))) ≡ shortOf 3)
+    × (judgedRouting a (framed (three ++ three)) ≡ accepted)
+unfolding beAt beOctets same subids nameOctets below isPrefix within weight number keyIn objects placeUnder placeOf lookup fresh fieldAt tagAllowed contentLength lengthRight fieldJudged checkedAt
+    kindAllowed statusAllowed statusOf idOf headOf contentRole contentIn bindingIn bindingAt bindingTagAt seventeenth bindingsFrom readMessage headOctets bindingOctets bindingsOctets messageOctets
+    elem tableFrom tableOf groupOf absent frame arrived sized step run led framesOf groupsOf among common keysAt allNamed readSet eachRead firstWith firstPair isShort pairsWith
+pairs-computed a = (refl, refl, refl, refl, refl)
+
+pub pair-batches : (a : List ℕ) → length a ≡ 6 → every isOctet a ≡ true → PairBatches a
+pair-batches a l o =
+    let v : valid (fresh routing a) ≡ true = valid-fresh routing a refl l o in
+    let c = pairs-computed a in
+    record {
+      row = on-image (fresh routing a) (framed (setOf (pairNumber 1 2 5 ∷ pairState 1 2 1 ∷ []) ∷ sixteenOf 2 ∷ setOf (pairNumber 1 2 6 ∷ []) ∷ [])) v ∙ c .0;
+      no-row = on-image (fresh routing a) (framed (setOf (pairNumber 2 1 5 ∷ []) ∷ setOf (pairNumber 2 1 5 ∷ []) ∷ [])) v ∙ c .1;
+      takes = on-image (fresh routing a) (framed pairs64) v ∙ c .2;
+      table = on-image (fresh routing a) (framed (pairs64 ++ (setOf (pairState 5 6 1 ∷ []) ∷ []))) v ∙ c .3;
+      others = on-image (fresh routing a) (framed (three ++ three)) v ∙ c .4;
+    }
 
 -- the three messages by their bindings, played in the orders 1, 2, 3 and 3, 1, 2 on the content of a fresh bridge: each is accepted at each of its turns, and
 -- both orders leave one content, in which a get gives what the three wrote
