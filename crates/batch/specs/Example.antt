@@ -1,5 +1,5 @@
--- Batches for a fresh bridge of four ports and any address (paper 02, E10 and E13), and for a fresh source-routing bridge of 64 ports (E12), as named
--- statements; `proofs/Example.antt` proves them. Assumes nothing.
+-- Batches for a fresh bridge of four ports and any address (paper 02, E10 and E13), and for a source-routing bridge of 64 ports with 63 pairs (E12), as
+-- named statements; `proofs/Example.antt` proves them. Assumes nothing.
 use Prim.Native.Nat.{ℕ, zero, suc, _+_}
 use mathlib.Core.Path.{_≡_}
 use mathlib.Core.List.{List, [], _∷_, _++_}
@@ -7,8 +7,10 @@ use lib.ListN.{replicate}
 use Rattle.names.specs.Devices.{sourceRouting}
 use Rattle.names.specs.Rule.{oldEdition}
 use Rattle.names.specs.declared.model.Model.{Model}
+use Rattle.block.specs.Content.{Content, withPairs}
 use Rattle.block.specs.Fresh.{fresh}
 use Rattle.block.specs.Image.{image}
+use Rattle.block.specs.declared.rows.PairRow.{PairRow}
 use Rattle.answer.specs.Judge.{Asked}
 use Rattle.answer.specs.Cases.{fourPorts, asked, egress, rowStatus, staticStatus, priority, getOf, setOf}
 use Rattle.console.specs.Batch.{mostFrames}
@@ -64,24 +66,28 @@ pairNumber low high x = asked (3 ∷ 5 ∷ 1 ∷ 3 ∷ low ∷ high ∷ []) 0x21
 abbrev pub pairState : (low high s : ℕ) → Asked
 pairState low high s = asked (3 ∷ 5 ∷ 1 ∷ 4 ∷ low ∷ high ∷ []) 0x21 (0 ∷ 0 ∷ 0 ∷ s ∷ [])
 
--- the states of the pairs of a port with the n ports from `high` on, and a set of sixteen of them
-unfoldable pub pairsWith : (low high n : ℕ) → List Asked
-pairsWith low high zero = []
-pairsWith low high (suc n) = pairState low high 1 ∷ pairsWith low (suc high) n
+-- 63 pairs: those of port 1 with the n ports from `high` on
+unfoldable pub pairsOfOne : (high n : ℕ) → List (ℕ × PairRow)
+pairsOfOne high zero = []
+pairsOfOne high (suc n) = (256 + high, record { number = 0; state = 1 }) ∷ pairsOfOne (suc high) n
 
-abbrev pub sixteenOf : ℕ → List ℕ
-sixteenOf low = setOf (pairsWith low (low + 1) 16)
+abbrev pub nearlyFull : List ℕ → Content
+nearlyFull a = withPairs (fresh routing a) (pairsOfOne 2 63)
 
-abbrev pub pairs64 : List (List ℕ)
-pairs64 = sixteenOf 1 ∷ sixteenOf 2 ∷ sixteenOf 3 ∷ sixteenOf 4 ∷ []
+-- a pair is made, with its bridge number; the pair of ports 1 and 2 goes
+abbrev pub makesPair : (low high : ℕ) → List ℕ
+makesPair low high = setOf (pairNumber low high 5 ∷ pairState low high 1 ∷ [])
+
+abbrev pub removesPair : List ℕ
+removesPair = setOf (pairState 1 2 3 ∷ [])
 
 -- E12: "E10 take these objects in, pairs as a third growing table with room for 64"
 pub record PairBatches (a : List ℕ) : Type 0 where
   -- a pair is a row, named by any of its columns; low and high the other way round name none
-  pub row : checkBatch (image (fresh routing a)) (framed (setOf (pairNumber 1 2 5 ∷ pairState 1 2 1 ∷ []) ∷ sixteenOf 2 ∷ setOf (pairNumber 1 2 6 ∷ []) ∷ [])) ≡ offending 1 3
-  pub no-row : checkBatch (image (fresh routing a)) (framed (setOf (pairNumber 2 1 5 ∷ []) ∷ setOf (pairNumber 2 1 5 ∷ []) ∷ [])) ≡ accepted
-  -- 64 absent pairs named, and one more
-  pub takes : checkBatch (image (fresh routing a)) (framed pairs64) ≡ accepted
-  pub table : checkBatch (image (fresh routing a)) (framed (pairs64 ++ (setOf (pairState 5 6 1 ∷ []) ∷ []))) ≡ shortOf 3
+  pub row : checkBatch (image (nearlyFull a)) (framed (makesPair 2 3 ∷ makesPair 2 4 ∷ setOf (pairNumber 2 3 6 ∷ []) ∷ [])) ≡ offending 1 3
+  pub no-row : checkBatch (image (nearlyFull a)) (framed (makesPair 3 2 ∷ makesPair 3 2 ∷ [])) ≡ accepted
+  -- there is room for one pair more, not for two; the room of a pair that goes does not count
+  pub takes : checkBatch (image (nearlyFull a)) (framed (makesPair 2 3 ∷ removesPair ∷ [])) ≡ accepted
+  pub table : checkBatch (image (nearlyFull a)) (framed (makesPair 2 3 ∷ removesPair ∷ makesPair 2 4 ∷ [])) ≡ shortOf 3
   -- an object of the other device names nothing here
-  pub others : checkBatch (image (fresh routing a)) (framed (three ++ three)) ≡ accepted
+  pub others : checkBatch (image (nearlyFull a)) (framed (three ++ three)) ≡ accepted
