@@ -20,10 +20,11 @@ use Rattle.block.specs.Lookup.{lookup, activeVlans}
 use Rattle.block.specs.Alter.{alter}
 use Rattle.block.specs.Fresh.{times, freshColumn, freshColumns, freshVlan, fresh}
 use Rattle.block.specs.Image.{fitTo, image, contentOf}
-use Rattle.block.specs.Valid.{every, isOctet, portSet, staticOk, rowsOk, valid}
+use Rattle.block.specs.Valid.{every, isOctet, portSet, staticOk, pairOk, rowsOk, valid}
 use Rattle.block.proofs.RoundLaws.{contentOf-image, legal-image}
 use Rattle.block.proofs.FreshLaws.{valid-fresh}
-use Rattle.block.proofs.KeepLaws.{valid-statics}
+use Rattle.block.specs.declared.tables.Table.the-variants.{Pair as pair}
+use Rattle.block.proofs.KeepLaws.{valid-rows, valid-statics}
 use Rattle.message.specs.Form.{fieldAt, tagAllowed, contentLength, lengthRight, judged as fieldJudged, checkedAt}
 use Rattle.message.specs.Request.{kindAllowed, statusAllowed, statusOf, idOf, headOf, contentRole, contentIn, bindingIn, bindingAt, bindingTagAt, seventeenth, bindingsFrom, readMessage, readRequest}
 use Rattle.message.specs.Answer.{headOctets, bindingOctets, bindingsOctets, messageOctets}
@@ -43,7 +44,7 @@ use Rattle.batch.specs.declared.RbBatch.{RbBatch}
 use Rattle.batch.specs.Check.{accepted, refusedWith, offending, shortOf, readSet, eachRead, firstWith, firstPair, isShort, framesJudged, checkBatch}
 use Rattle.batch.specs.Theorems.{framed, Accepted}
 use Rattle.batch.specs.Order.{Turn, Plays, SameInAll}
-use Rattle.batch.specs.Example.{three, maxAge, helloTime, tenAgain, Batches}
+use Rattle.batch.specs.Example.{three, maxAge, helloTime, tenAgain, Batches, routing, pairNumber, pairsOfOne, nearlyFull, makesPair, removesPair, PairBatches}
 use Rattle.batch.proofs.CheckLaws.{accepts-exactly}
 use Rattle.batch.proofs.AcceptLaws.{any-order}
 
@@ -52,7 +53,7 @@ on-image : (c : Content) (batch : List ℕ) → valid c ≡ true → checkBatch 
 unfolding checkBatch
 on-image c batch v = rw (legal-image c v) (ap (λ (d : Content). framesJudged d (framesOf mostFrames batch)) (contentOf-image c v))
 
--- the content matters by its ports and its rows' keys alone, which are known
+-- the content matters by its model and its rows' keys alone, which are known
 abbrev judgedOn : List ℕ → List ℕ → RbBatch
 judgedOn a batch = framesJudged (fresh fourPorts a) (framesOf mostFrames batch)
 
@@ -77,7 +78,7 @@ computed a = (refl, refl, refl, refl, refl, refl, refl, refl, refl, refl, refl, 
 
 pub batches : (a : List ℕ) → length a ≡ 6 → every isOctet a ≡ true → Batches a
 batches a l o =
-    let v : valid (fresh fourPorts a) ≡ true = valid-fresh fourPorts a (lit≤ tt) (lit≤ tt) refl l o in
+    let v : valid (fresh fourPorts a) ≡ true = valid-fresh fourPorts a refl l o in
     let c = computed a in
     let takes : checkBatch (image (fresh fourPorts a)) (framed three) ≡ accepted = on-image (fresh fourPorts a) (framed three) v ∙ c .1 in
     record {
@@ -100,6 +101,34 @@ batches a l o =
     in-all c w e u xs ys p q =
         let m : three ≡ w .messages = ap (λ (f : List (List ℕ) × ℕ). f .0) (sym e ∙ w .framed) in
         any-order (image c) (framed three) (octets-every (framed three) u) w xs ys (subst (λ (ms : List (List ℕ)). Plays ms xs) m p) (subst (λ (ms : List (List ℕ)). Plays ms ys) m q)
+
+-- batches of a source-routing bridge with 63 pairs
+abbrev judgedPairs : List ℕ → List ℕ → RbBatch
+judgedPairs a batch = framesJudged (nearlyFull a) (framesOf mostFrames batch)
+
+pairs-computed : (a : List ℕ)
+    → (judgedPairs a (framed (makesPair 2 3 ∷ makesPair 2 4 ∷ setOf (pairNumber 2 3 6 ∷ []) ∷ [])) ≡ offending 1 3)
+    × (judgedPairs a (framed (makesPair 3 2 ∷ makesPair 3 2 ∷ [])) ≡ accepted)
+    × (judgedPairs a (framed (makesPair 2 3 ∷ removesPair ∷ [])) ≡ accepted)
+    × (judgedPairs a (framed (makesPair 2 3 ∷ removesPair ∷ makesPair 2 4 ∷ [])) ≡ shortOf 3)
+    × (judgedPairs a (framed (three ++ three)) ≡ accepted)
+unfolding beAt beOctets same subids nameOctets below isPrefix within weight number keyIn objects placeUnder placeOf lookup fresh fieldAt tagAllowed contentLength lengthRight fieldJudged checkedAt
+    kindAllowed statusAllowed statusOf idOf headOf contentRole contentIn bindingIn bindingAt bindingTagAt seventeenth bindingsFrom readMessage headOctets bindingOctets bindingsOctets messageOctets
+    elem tableFrom tableOf groupOf absent frame arrived sized step run led framesOf groupsOf among common keysAt allNamed readSet eachRead firstWith firstPair isShort pairsOfOne
+pairs-computed a = (refl, refl, refl, refl, refl)
+
+pub pair-batches : (a : List ℕ) → length a ≡ 6 → every isOctet a ≡ true → PairBatches a
+unfolding fresh pairsOfOne within weight digits number rowsOk pairOk
+pair-batches a l o =
+    let v : valid (nearlyFull a) ≡ true = valid-rows (fresh routing a) (valid-fresh routing a refl l o) pair (pairsOfOne 2 63) refl (lit≤ tt) in
+    let c = pairs-computed a in
+    record {
+      row = on-image (nearlyFull a) (framed (makesPair 2 3 ∷ makesPair 2 4 ∷ setOf (pairNumber 2 3 6 ∷ []) ∷ [])) v ∙ c .0;
+      no-row = on-image (nearlyFull a) (framed (makesPair 3 2 ∷ makesPair 3 2 ∷ [])) v ∙ c .1;
+      takes = on-image (nearlyFull a) (framed (makesPair 2 3 ∷ removesPair ∷ [])) v ∙ c .2;
+      table = on-image (nearlyFull a) (framed (makesPair 2 3 ∷ removesPair ∷ makesPair 2 4 ∷ [])) v ∙ c .3;
+      others = on-image (nearlyFull a) (framed (three ++ three)) v ∙ c .4;
+    }
 
 -- the three messages by their bindings, played in the orders 1, 2, 3 and 3, 1, 2 on the content of a fresh bridge: each is accepted at each of its turns, and
 -- both orders leave one content, in which a get gives what the three wrote

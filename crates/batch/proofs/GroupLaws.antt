@@ -10,6 +10,7 @@ use lib.Dec.{eqb}
 use lib.ListN.{length, take, drop, getD, set, length-map, length-set, drop-of-length-le}
 use lib.Seq.{length-take-le, drop-cons, take-suc-set, getD-take}
 use borrow.Author.Tests.{eq-eqb, ne-eqb, eqb-true, le-leb, lt-leb}
+use Rattle.names.specs.declared.model.Model.{Model}
 use Rattle.names.specs.Table.{objectCount}
 use Rattle.names.specs.Groups.{tableOf}
 use Rattle.names.proofs.GroupLaws.{table-below}
@@ -107,15 +108,15 @@ group-here i k {t} e h = rw (ne-eqb t objectCount (λ z. omega (arith, table-bel
 pub record Bound (m : List ℕ) : Type 0 where
   pub bindings : List Binding
   pub reads : bindingsFrom 3 m 16 16 ≡ all bindings
-  pub named : (n : ℕ) → groupsOf n m ≡ map (groupAt n m) bindings
+  pub named : (d : Model) → groupsOf d m ≡ map (groupAt d m) bindings
 
 pub set-bound : (m : List ℕ) → isSet (readRequest m) ≡ true → Bound m
 unfolding readMessage groupsOf
 set-bound m e = by-head (headOf requests m) refl
   where
-    each : (n : ℕ) (bs : List Binding) → map (λ (b : Asked). groupOf n (b .name)) (map (askedAt m) bs) ≡ map (groupAt n m) bs
-    each n [] = refl
-    each n (b ∷ bs) = ap (λ (l : List (Option Group)). groupAt n m b ∷ l) (each n bs)
+    each : (d : Model) (bs : List Binding) → map (λ (b : Asked). groupOf d (b .name)) (map (askedAt m) bs) ≡ map (groupAt d m) bs
+    each d [] = refl
+    each d (b ∷ bs) = ap (λ (l : List (Option Group)). groupAt d m b ∷ l) (each d bs)
 
     by-bindings : (kind id status index : ℕ) → headOf requests m ≡ Head.Found kind id status index → (x : Bindings) → bindingsFrom kind m 16 16 ≡ x → Bound m
     by-bindings kind id status index h (ended r) q =
@@ -127,7 +128,7 @@ set-bound m e = by-head (headOf requests m) refl
         record {
           bindings = bs;
           reads = ap (λ (j : ℕ). bindingsFrom j m 16 16) (sym k) ∙ q;
-          named = λ n. ap (λ (x : Reading). map (λ (b : Asked). groupOf n (b .name)) (askedIn m x)) z ∙ each n bs;
+          named = λ d. ap (λ (x : Reading). map (λ (b : Asked). groupOf d (b .name)) (askedIn m x)) z ∙ each d bs;
         }
 
     by-head : (h : Head) → headOf requests m ≡ h → Bound m
@@ -137,18 +138,18 @@ set-bound m e = by-head (headOf requests m) refl
     by-head (Head.Found kind id status index) q = by-bindings kind id status index q (bindingsFrom kind m 16 16) refl
 
 -- the first bindings are named, and the next one stands at `at`
-pub record Sofar (ports : ℕ) (m : List ℕ) (found : List NamedGroup) (count at : ℕ) : Type 0 where
+pub record Sofar (d : Model) (m : List ℕ) (found : List NamedGroup) (count at : ℕ) : Type 0 where
   pub left : ℕ
   pub rest : List Binding
   pub long : length found ≡ 16
   pub room : count + left ≡ 16
   pub reads : bindingsFrom 3 m left at ≡ all rest
-  pub named : map meant (take count found) ++ map (groupAt ports m) rest ≡ groupsOf ports m
+  pub named : map meant (take count found) ++ map (groupAt d m) rest ≡ groupsOf d m
 
-pub sofar-none : (ports : ℕ) (m : List ℕ) (found : List NamedGroup) → length found ≡ 16 → isSet (readRequest m) ≡ true → Sofar ports m found 0 16
-sofar-none ports m found l e =
+pub sofar-none : (d : Model) (m : List ℕ) (found : List NamedGroup) → length found ≡ 16 → isSet (readRequest m) ≡ true → Sofar d m found 0 16
+sofar-none d m found l e =
     let q : Bound m = set-bound m e in
-    record { left = 16; rest = q .bindings; long = l; room = refl; reads = q .reads; named = sym (q .named ports) }
+    record { left = 16; rest = q .bindings; long = l; room = refl; reads = q .reads; named = sym (q .named d) }
 
 none-left : (m : List ℕ) (left at : ℕ) (bs : List Binding) → length m ≤ at → bindingsFrom 3 m left at ≡ all bs → bs ≡ []
 unfolding bindingsFrom
@@ -180,11 +181,11 @@ one-next m (suc left) at bs {b} {next} h q e =
     go (ended r) f g = clash (cc)
     go (all cs) f g = let z : b ∷ cs ≡ bs = cc in record { later = left; fewer = refl; behind = cs; splits = sym z; reads = f }
 
-module _ {ports : ℕ} {m : List ℕ} {found : List NamedGroup} {count at : ℕ} (w : Sofar ports m found count at) where
-  pub sofar-all : length m ≤ at → (map meant (take count found) ≡ groupsOf ports m) × (count ≤ 16) × (length found ≡ 16)
+module _ {d : Model} {m : List ℕ} {found : List NamedGroup} {count at : ℕ} (w : Sofar d m found count at) where
+  pub sofar-all : length m ≤ at → (map meant (take count found) ≡ groupsOf d m) × (count ≤ 16) × (length found ≡ 16)
   sofar-all h =
       let z : w .rest ≡ [] = none-left m (w .left) at (w .rest) h (w .reads) in (
-        sym (append-nil (map meant (take count found))) ∙ ap (λ (l : List Binding). map meant (take count found) ++ map (groupAt ports m) l) (sym z) ∙ w .named,
+        sym (append-nil (map meant (take count found))) ∙ ap (λ (l : List Binding). map meant (take count found) ++ map (groupAt d m) l) (sym z) ∙ w .named,
         omega (arith, w .room),
         w .long,
       )
@@ -200,7 +201,7 @@ module _ {ports : ℕ} {m : List ℕ} {found : List NamedGroup} {count at : ℕ}
       pub sofar-low : count < 16
       sofar-low = omega (arith, w .room, after .fewer)
 
-      pub sofar-more : (t : NamedGroup) → meant t ≡ groupAt ports m b → Sofar ports m (set found count t) (count + 1) next
+      pub sofar-more : (t : NamedGroup) → meant t ≡ groupAt d m b → Sofar d m (set found count t) (count + 1) next
       sofar-more t p =
           let low : count < length found = omega (arith, sofar-low, w .long) in
           record {
@@ -211,8 +212,8 @@ module _ {ports : ℕ} {m : List ℕ} {found : List NamedGroup} {count at : ℕ}
             reads = after .reads;
             named =
                 rw (add-one count, take-suc-set found count t low)
-                (ap (λ (l : List (Option Group)). l ++ map (groupAt ports m) (after .behind)) (map-append meant (take count found) (t ∷ []))
-                ∙ append-assoc (map meant (take count found)) (meant t ∷ []) (map (groupAt ports m) (after .behind))
-                ∙ ap (λ (g : Option Group). map meant (take count found) ++ (g ∷ map (groupAt ports m) (after .behind))) p
-                ∙ ap (λ (l : List Binding). map meant (take count found) ++ map (groupAt ports m) l) (sym (after .splits)) ∙ w .named);
+                (ap (λ (l : List (Option Group)). l ++ map (groupAt d m) (after .behind)) (map-append meant (take count found) (t ∷ []))
+                ∙ append-assoc (map meant (take count found)) (meant t ∷ []) (map (groupAt d m) (after .behind))
+                ∙ ap (λ (g : Option Group). map meant (take count found) ++ (g ∷ map (groupAt d m) (after .behind))) p
+                ∙ ap (λ (l : List Binding). map meant (take count found) ++ map (groupAt d m) l) (sym (after .splits)) ∙ w .named);
           }

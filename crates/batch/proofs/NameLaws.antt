@@ -8,7 +8,7 @@ use mathlib.Core.List.{List, [], _∷_, _++_, map}
 use lib.Dec.{eqb}
 use borrow.Author.Tests.{eqb-true, eq-eqb}
 use Rattle.octets.proofs.BoolLaws.{by-eq, by-bool, both}
-use Rattle.block.specs.declared.model.Model.{Model}
+use Rattle.names.specs.declared.model.Model.{Model}
 use Rattle.answer.specs.Get.{elem}
 use Rattle.answer.specs.Tables.{firstColumn}
 use Rattle.answer.specs.Judge.{Asked, Judged, groupNamed, groupOf, judged}
@@ -69,7 +69,7 @@ common-gives (x ∷ gs) hs e =
     record { group = t .group; left = or-right (sameGroup (some (t .group)) x) (among (some (t .group)) gs) (t .left); right = t .right })
 
 -- what a message names, by the bindings that are judged
-pub groups-judged : (d : Model) (m : List ℕ) → groupsOf (d .ports) m ≡ map groupNamed (namedBy d m)
+pub groups-judged : (d : Model) (m : List ℕ) → groupsOf d m ≡ map groupNamed (namedBy d m)
 unfolding groupsOf
 groups-judged d m = sym (judged-groups d [] (askedOf m))
 
@@ -95,12 +95,12 @@ indices-among t k (b ∷ m) e =
     named-here t k (groupNamed b) (indices t m) (map groupNamed m) (indices-among t k m) e
 
 -- two messages that name nothing in common are separate, in demand 3's terms
-pub separate-of : (d : Model) (a b : List ℕ) → common (groupsOf (d .ports) a) (groupsOf (d .ports) b) ≡ false → Separate (namedBy d a) (namedBy d b)
+pub separate-of : (d : Model) (a b : List ℕ) → common (groupsOf d a) (groupsOf d b) ≡ false → Separate (namedBy d a) (namedBy d b)
 separate-of d a b e t j p =
     by-bool (elem j (indices t (namedBy d b)))
     (λ q.
     absurd (true≢false
-    (sym (common-of (t, j) (groupsOf (d .ports) a) (groupsOf (d .ports) b)
+    (sym (common-of (t, j) (groupsOf d a) (groupsOf d b)
     (ap (among (some (t, j))) (groups-judged d a) ∙ indices-among t j (namedBy d a) p)
     (ap (among (some (t, j))) (groups-judged d b) ∙ indices-among t j (namedBy d b) q))
     ∙ e)))
@@ -111,7 +111,7 @@ unfolding keysAt indices
 keys-groups t [] = refl
 keys-groups t (b ∷ m) = ap (onto t (groupNamed b)) (keys-groups t m)
 
-pub keys-named : (d : Model) (t : Table) (m : List ℕ) → keysAt (firstColumn t) (groupsOf (d .ports) m) ≡ namedIn t (namedBy d m)
+pub keys-named : (d : Model) (t : Table) (m : List ℕ) → keysAt (firstColumn t) (groupsOf d m) ≡ namedIn t (namedBy d m)
 keys-named d t m = ap (keysAt (firstColumn t)) (groups-judged d m) ∙ keys-groups (firstColumn t) (namedBy d m)
 
 pub keys-append : (t : ℕ) (gs hs : List (Option Group)) → keysAt t (gs ++ hs) ≡ keysAt t gs ++ keysAt t hs

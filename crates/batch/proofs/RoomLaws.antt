@@ -12,6 +12,7 @@ use Rattle.octets.proofs.BoolLaws.{by-bool}
 use Rattle.block.specs.Image.{contentOf}
 use Rattle.block.specs.Valid.{legal}
 use Rattle.block.specs.Lookup.{lookup, keysOf}
+use Rattle.names.specs.declared.model.Model.{Model}
 use Rattle.names.specs.Table.{objectCount}
 use Rattle.block.proofs.StandingLaws.{stands}
 use Rattle.block.proofs.RoundLaws.{legal-valid}
@@ -19,7 +20,7 @@ use Rattle.answer.specs.Get.{elem}
 use Rattle.answer.specs.Writes.{present}
 use Rattle.block.specs.Tables.{rowsOf, most}
 use Rattle.block.specs.declared.tables.Table.{Table}
-use Rattle.block.specs.declared.tables.Table.the-variants.{Vlan as vlan, Static as static}
+use Rattle.block.specs.declared.tables.Table.the-variants.{Vlan as vlan, Static as static, Pair as pair}
 use Rattle.answer.specs.Tables.{firstColumn}
 use Rattle.answer.proofs.StoredLaws.{elem-present}
 use Rattle.answer.specs.Terms.{onto, absent}
@@ -55,6 +56,7 @@ elem-among t k (some g ∷ gs) = by-bool (eqb t (g .0)) (λ e. rw (e, elem-among
 column-low : (t : Table) → firstColumn t ≡ objectCount → ⊥
 column-low vlan e = omega arith
 column-low static e = omega arith
+column-low pair e = omega arith
 
 -- one binding's share in the absent rows
 module _ {R : Type 0} (es : List (ℕ × R)) (t : Table) (all : List NamedGroup) (n : ℕ) (enough : n ≤ length all) (i : ℕ) (h : i < n) where
@@ -101,20 +103,20 @@ module _ {R : Type 0} (es : List (ℕ × R)) (t : Table) (all : List NamedGroup)
       flip false = refl
 
 -- one message's share in the absent rows
-module _ {R : Type 0} (es : List (ℕ × R)) (t ports : ℕ) where
+module _ {R : Type 0} (es : List (ℕ × R)) (t : ℕ) (d : Model) where
   pub each-more : {b : List ℕ} {at i : ℕ} → SetsFrom b at i → at < length b → {s : Span} → Means b at (Framed.Whole s) → (n k : ℕ) {x : ℕ}
-      → n + absentEach es t (namedFrom ports b at i) ≡ k → x ≡ absent es (keysAt t (groupsOf ports (octetsAt b s)))
-      → n + x + absentEach es t (namedFrom ports b (s .start + s .len) (i + 1)) ≡ k
+      → n + absentEach es t (namedFrom d b at i) ≡ k → x ≡ absent es (keysAt t (groupsOf d (octetsAt b s)))
+      → n + x + absentEach es t (namedFrom d b (s .start + s .len) (i + 1)) ≡ k
   unfolding absentEach
   each-more {b} {at} {i} w h {s} m n k e p =
-      let q : absentEach es t (namedFrom ports b at i)
-      ≡ absent es (keysAt t (groupsOf ports (octetsAt b s))) + absentEach es t (namedFrom ports b (s .start + s .len) (i + 1)) =
-      ap (absentEach es t) (named-turn w h m ports) in
+      let q : absentEach es t (namedFrom d b at i)
+      ≡ absent es (keysAt t (groupsOf d (octetsAt b s))) + absentEach es t (namedFrom d b (s .start + s .len) (i + 1)) =
+      ap (absentEach es t) (named-turn w h m d) in
       omega (arith, e, p, q)
 
-  pub each-done : (b : List ℕ) (at i : ℕ) → length b ≤ at → absentEach es t (namedFrom ports b at i) ≡ 0
+  pub each-done : (b : List ℕ) (at i : ℕ) → length b ≤ at → absentEach es t (namedFrom d b at i) ≡ 0
   unfolding absentEach
-  each-done b at i h = ap (absentEach es t) (named-end ports b at i h)
+  each-done b at i h = ap (absentEach es t) (named-end d b at i h)
 
 -- messages of which no two name a common row or scalar: counted message by message, each row is counted once
 elem-apart : (k : ℕ) (a b : List ℕ) → elem k b ≡ false → elem k (a ++ b) ≡ elem k a

@@ -8,6 +8,7 @@ use lib.Dec.{leb}
 use lib.ListN.{length, drop}
 use borrow.Author.Tests.{leb-true, leb-false}
 use Rattle.octets.proofs.BoolLaws.{by-bool}
+use Rattle.names.specs.declared.model.Model.{Model}
 use Rattle.names.specs.Ascending.{All as Every}
 use Rattle.message.specs.Request.{readRequest}
 use Rattle.answer.specs.Terms.{isSet}
@@ -48,8 +49,8 @@ goes-on b at r g m = go (g .1 .0) (g .1 .1)
     go (suc n) e = m .0 (sym (ap (λ (f : List (List ℕ) × ℕ). f .1) (frames-refused b at (g .0) n r m)) ∙ e)
 
 -- what a message names, where none is left
-pub named-end : (ports : ℕ) (b : List ℕ) (at i : ℕ) → length b ≤ at → namedFrom ports b at i ≡ []
-named-end ports b at i h = ap (λ (f : List (List ℕ) × ℕ). map (groupsOf ports) (f .0)) (from-end b at i h)
+pub named-end : (d : Model) (b : List ℕ) (at i : ℕ) → length b ≤ at → namedFrom d b at i ≡ []
+named-end d b at i h = ap (λ (f : List (List ℕ) × ℕ). map (groupsOf d) (f .0)) (from-end b at i h)
 
 -- messages that are all sets: the first one, and those behind it
 module _ {b : List ℕ} {at i : ℕ} (w : SetsFrom b at i) (h : at < length b) where
@@ -76,5 +77,5 @@ module _ {b : List ℕ} {at i : ℕ} (w : SetsFrom b at i) (h : at < length b) w
     pub sets-behind : SetsFrom b (s .start + s .len) (i + 1)
     sets-behind = record { within = m .1 .0; right = sym (ap (λ (f : List (List ℕ) × ℕ). f .1) first) ∙ w .right; sets = all-sets .1 }
 
-    pub named-turn : (ports : ℕ) → namedFrom ports b at i ≡ groupsOf ports (octetsAt b s) ∷ namedFrom ports b (s .start + s .len) (i + 1)
-    named-turn ports = ap (λ (f : List (List ℕ) × ℕ). map (groupsOf ports) (f .0)) first
+    pub named-turn : (d : Model) → namedFrom d b at i ≡ groupsOf d (octetsAt b s) ∷ namedFrom d b (s .start + s .len) (i + 1)
+    named-turn d = ap (λ (f : List (List ℕ) × ℕ). map (groupsOf d) (f .0)) first

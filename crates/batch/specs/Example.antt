@@ -1,15 +1,22 @@
--- Batches for a fresh bridge of four ports and any address (paper 02, E10 and E13), as a named statement; `proofs/Example.antt` proves it. Assumes nothing.
-use Prim.Native.Nat.{ℕ}
+-- Batches for a fresh bridge of four ports and any address (paper 02, E10 and E13), and for a source-routing bridge of 64 ports with 63 pairs (E12), as
+-- named statements; `proofs/Example.antt` proves them. Assumes nothing.
+use Prim.Native.Nat.{ℕ, zero, suc, _+_}
 use mathlib.Core.Path.{_≡_}
 use mathlib.Core.List.{List, [], _∷_, _++_}
 use lib.ListN.{replicate}
+use Rattle.names.specs.Devices.{sourceRouting}
+use Rattle.names.specs.Rule.{oldEdition}
+use Rattle.names.specs.declared.model.Model.{Model}
+use Rattle.block.specs.Content.{Content, withPairs}
 use Rattle.block.specs.Fresh.{fresh}
 use Rattle.block.specs.Image.{image}
+use Rattle.block.specs.declared.rows.PairRow.{PairRow}
+use Rattle.answer.specs.Judge.{Asked}
 use Rattle.answer.specs.Cases.{fourPorts, asked, egress, rowStatus, staticStatus, priority, getOf, setOf}
 use Rattle.console.specs.Batch.{mostFrames}
 use Rattle.batch.specs.declared.RbBatch.{RbBatch}
 use Rattle.batch.specs.Order.{Turn, Plays, SameInAll}
-use Rattle.batch.specs.Check.{accepted, offending, refusedWith, checkBatch}
+use Rattle.batch.specs.Check.{accepted, offending, shortOf, refusedWith, checkBatch}
 use Rattle.batch.specs.Theorems.{framed}
 
 -- VLAN 10 is made, with Egress; a static row is made; StpPriority is set
@@ -48,3 +55,39 @@ pub record Batches (a : List ℕ) : Type 0 where
   -- 64 messages, and an octet after them
   pub most-frames : checkBatch (image (fresh fourPorts a)) (framed (replicate mostFrames (setOf []))) ≡ accepted
   pub octet-more : checkBatch (image (fresh fourPorts a)) (framed (replicate mostFrames (setOf [])) ++ (0 ∷ [])) ≡ refusedWith 23
+
+abbrev pub routing : Model
+routing = record { ports = 64; edition = oldEdition; device = sourceRouting }
+
+-- a pair's bridge number and its state
+abbrev pub pairNumber : (low high x : ℕ) → Asked
+pairNumber low high x = asked (3 ∷ 5 ∷ 1 ∷ 3 ∷ low ∷ high ∷ []) 0x21 (0 ∷ 0 ∷ 0 ∷ x ∷ [])
+
+abbrev pub pairState : (low high s : ℕ) → Asked
+pairState low high s = asked (3 ∷ 5 ∷ 1 ∷ 4 ∷ low ∷ high ∷ []) 0x21 (0 ∷ 0 ∷ 0 ∷ s ∷ [])
+
+-- 63 pairs: those of port 1 with the n ports from `high` on
+unfoldable pub pairsOfOne : (high n : ℕ) → List (ℕ × PairRow)
+pairsOfOne high zero = []
+pairsOfOne high (suc n) = (256 + high, record { number = 0; state = 1 }) ∷ pairsOfOne (suc high) n
+
+abbrev pub nearlyFull : List ℕ → Content
+nearlyFull a = withPairs (fresh routing a) (pairsOfOne 2 63)
+
+-- a pair is made, with its bridge number; the pair of ports 1 and 2 goes
+abbrev pub makesPair : (low high : ℕ) → List ℕ
+makesPair low high = setOf (pairNumber low high 5 ∷ pairState low high 1 ∷ [])
+
+abbrev pub removesPair : List ℕ
+removesPair = setOf (pairState 1 2 3 ∷ [])
+
+-- E12: "E10 take these objects in, pairs as a third growing table with room for 64"
+pub record PairBatches (a : List ℕ) : Type 0 where
+  -- a pair is a row, named by any of its columns; low and high the other way round name none
+  pub row : checkBatch (image (nearlyFull a)) (framed (makesPair 2 3 ∷ makesPair 2 4 ∷ setOf (pairNumber 2 3 6 ∷ []) ∷ [])) ≡ offending 1 3
+  pub no-row : checkBatch (image (nearlyFull a)) (framed (makesPair 3 2 ∷ makesPair 3 2 ∷ [])) ≡ accepted
+  -- there is room for one pair more, not for two; the room of a pair that goes does not count
+  pub takes : checkBatch (image (nearlyFull a)) (framed (makesPair 2 3 ∷ removesPair ∷ [])) ≡ accepted
+  pub table : checkBatch (image (nearlyFull a)) (framed (makesPair 2 3 ∷ removesPair ∷ makesPair 2 4 ∷ [])) ≡ shortOf 3
+  -- an object of the other device names nothing here
+  pub others : checkBatch (image (nearlyFull a)) (framed (three ++ three)) ≡ accepted

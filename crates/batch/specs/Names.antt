@@ -4,6 +4,7 @@ use mathlib.Core.Bool.{Bool, false, cond, _||_, _&&_}
 use mathlib.Core.Option.{Option, none, some}
 use mathlib.Core.List.{List, [], _∷_, _++_, map}
 use lib.Dec.{eqb}
+use Rattle.names.specs.declared.model.Model.{Model}
 use Rattle.answer.specs.Judge.{Asked, groupOf}
 use Rattle.answer.specs.Terms.{onto, askedOf}
 
@@ -11,9 +12,9 @@ use Rattle.answer.specs.Terms.{onto, askedOf}
 abbrev pub Group : Type 0
 Group = ℕ × ℕ
 
--- what the bindings of a message name, one by one; a binding at fault names its row or scalar too
-unfoldable pub groupsOf : (ports : ℕ) → (message : List ℕ) → List (Option Group)
-groupsOf n m = map (λ (b : Asked). groupOf n (b .name)) (askedOf m)
+-- what the bindings of a message name on a model, one by one; a binding at fault names its row or scalar too
+unfoldable pub groupsOf : Model → (message : List ℕ) → List (Option Group)
+groupsOf d m = map (λ (b : Asked). groupOf d (b .name)) (askedOf m)
 
 -- one row or scalar
 abbrev pub sameGroup : Option Group → Option Group → Bool

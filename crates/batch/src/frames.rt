@@ -13,6 +13,7 @@ use super::groups::groups_in;
 use console::frames::Framed;
 use console::frames::Span;
 use console::frames::frame_at;
+use names::model::Model;
 
 // The message whose frame starts at index at.
 pub fn message_at(batch: &[u8], at: usize) -> Span
@@ -26,11 +27,11 @@ pub fn message_at(batch: &[u8], at: usize) -> Span
 }
 
 // What the message at a place names.
-pub fn groups_at(ports: u32, batch: &[u8], s: Span) -> NamedGroups
-    requires { ⌜ (ports ≤ 64) × Within (now batch) s × (isSet (readRequest (octetsAt (now batch) s)) ≡ true) ⌝ }
-    ensures { λ r. ⌜ (groups r ≡ groupsOf ports (octetsAt (now (batch .entry)) s)) × Few r ⌝ }
+pub fn groups_at(model: Model, batch: &[u8], s: Span) -> NamedGroups
+    requires { ⌜ (model .ports ≤ 64) × Within (now batch) s × (isSet (readRequest (octetsAt (now batch) s)) ≡ true) ⌝ }
+    ensures { λ r. ⌜ (groups r ≡ groupsOf model (octetsAt (now (batch .entry)) s)) × Few r ⌝ }
 {
     let at = s.start;
     let end = at + s.len;
-    groups_in(ports, &batch[at..end])
+    groups_in(model, &batch[at..end])
 }

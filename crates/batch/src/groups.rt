@@ -12,6 +12,7 @@ ghost use Rattle.batch.specs.Found.{meant, Few, groups};
 use message::form::HEAD_SIZE;
 use message::request::BindingRead;
 use message::request::binding_at;
+use names::model::Model;
 use names::table::OBJECT_COUNT;
 use names::targets::Target;
 use names::targets::group_of;
@@ -39,12 +40,12 @@ const NO_GROUP: NamedGroup = NamedGroup {
 // The kind of a set.
 pub const SET: u8 = 3;
 
-// The row or scalar that a name names.
-pub fn group_named(ports: u32, name: &[u8]) -> NamedGroup
-    requires { ⌜ ports ≤ 64 ⌝ }
-    ensures { λ r. ⌜ meant r ≡ groupOf ports (subids (now (name .entry))) ⌝ }
+// The row or scalar that a name names on a model.
+pub fn group_named(model: Model, name: &[u8]) -> NamedGroup
+    requires { ⌜ model .ports ≤ 64 ⌝ }
+    ensures { λ r. ⌜ meant r ≡ groupOf model (subids (now (name .entry))) ⌝ }
 {
-    let target = target_of(ports, name);
+    let target = target_of(model, name);
     match target {
         Target::Unknown => NO_GROUP,
         Target::NoIndex(_) => NO_GROUP,
@@ -56,9 +57,9 @@ pub fn group_named(ports: u32, name: &[u8]) -> NamedGroup
 }
 
 // What a set names: its bindings are read one after the other, behind the head, and not kept.
-pub fn groups_in(ports: u32, m: &[u8]) -> NamedGroups
-    requires { ⌜ (ports ≤ 64) × (isSet (readRequest (now m)) ≡ true) ⌝ }
-    ensures { λ r. ⌜ (groups r ≡ groupsOf ports (now (m .entry))) × Few r ⌝ }
+pub fn groups_in(model: Model, m: &[u8]) -> NamedGroups
+    requires { ⌜ (model .ports ≤ 64) × (isSet (readRequest (now m)) ≡ true) ⌝ }
+    ensures { λ r. ⌜ (groups r ≡ groupsOf model (now (m .entry))) × Few r ⌝ }
 {
     let mut all = [NO_GROUP; 16];
     let mut count: usize = 0;
@@ -71,7 +72,7 @@ pub fn groups_in(ports: u32, m: &[u8]) -> NamedGroups
             BindingRead::Bound { binding, next } => {
                 let start = binding.name;
                 let end = start + binding.size;
-                all[count] = group_named(ports, &m[start..end]);
+                all[count] = group_named(model, &m[start..end]);
                 count += 1;
                 at = next;
             }

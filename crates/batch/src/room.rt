@@ -2,15 +2,14 @@
 ghost use mathlib.Core.Path.{_≡_};
 ghost use mathlib.Core.Bool.{true, cond};
 ghost use Prim.Native.Nat.{_+_, _≤_, _<_};
-ghost use lib.Dec.{ltb};
-ghost use lib.ListN.{length, drop};
+ghost use lib.ListN.{drop};
 ghost use Rattle.block.specs.Image.{contentOf};
 ghost use Rattle.block.specs.Valid.{legal};
-ghost use Rattle.block.specs.Tables.{rowsOf, most};
+ghost use Rattle.block.specs.Tables.{rowsOf};
 ghost use Rattle.answer.specs.Tables.{firstColumn};
 ghost use Rattle.answer.specs.Terms.{absent};
 ghost use Rattle.batch.specs.Names.{keysAt};
-ghost use Rattle.batch.specs.Found.{groups, Few, absentEach, SetsFrom, namedFrom};
+ghost use Rattle.batch.specs.Found.{groups, Few, SetsFrom, namedFrom, rowsCounted, shortCounted, firstCounted};
 use super::frames::groups_at;
 use super::frames::message_at;
 use super::groups::NamedGroups;
@@ -19,8 +18,17 @@ use block::tables::Table;
 use block::tables::row_count;
 use block::tables::standing_of;
 use get::instances::has_row;
+use names::model::Model;
+use names::places::PAIR_LOW_PORT;
 use names::places::STATIC_ADDRESS;
 use names::places::VLAN_NAME;
+
+// The growing tables by their numbers.
+const VLAN_TABLE: u32 = 1;
+
+const STATIC_TABLE: u32 = 2;
+
+const PAIR_TABLE: u32 = 3;
 
 // The place of a table's first column.
 fn first_column(t: Table) -> usize
@@ -29,6 +37,7 @@ fn first_column(t: Table) -> usize
     match t {
         Table::Vlan => VLAN_NAME,
         Table::Static => STATIC_ADDRESS,
+        Table::Pair => PAIR_LOW_PORT,
     }
 }
 
@@ -67,16 +76,16 @@ fn absent_in(block: &[u8], t: Table, of: NamedGroups) -> usize
 }
 
 // The rows of a table and the absent ones that the messages name, message by message.
-fn needed(block: &[u8], t: Table, ports: u32, batch: &[u8]) -> usize
-    requires { ⌜ (legal (now block) ≡ true) × (ports ≤ 64) × SetsFrom (now batch) 0 1 ⌝ }
-    ensures { λ r. ⌜ r ≡ length (rowsOf t (contentOf (now (block .entry)))) + absentEach (rowsOf t (contentOf (now (block .entry)))) (firstColumn t) (namedFrom ports (now (batch .entry)) 0 1) ⌝ }
+fn needed(block: &[u8], t: Table, model: Model, batch: &[u8]) -> usize
+    requires { ⌜ (legal (now block) ≡ true) × (model .ports ≤ 64) × SetsFrom (now batch) 0 1 ⌝ }
+    ensures { λ r. ⌜ r ≡ rowsCounted t (contentOf (now (block .entry))) (namedFrom model (now (batch .entry)) 0 1) ⌝ }
 {
     let mut n = row_count(block, t);
     let mut at: usize = 0;
     let mut i: usize = 1;
     while at < batch.len() {
         let s = message_at(batch, at);
-        n += absent_in(block, t, groups_at(ports, batch, s));
+        n += absent_in(block, t, groups_at(model, batch, s));
         at = s.start + s.len;
         i += 1;
     }
@@ -84,10 +93,27 @@ fn needed(block: &[u8], t: Table, ports: u32, batch: &[u8]) -> usize
 }
 
 // Whether a table has not room for all absent rows that the messages name.
-pub fn is_short(block: &[u8], t: Table, ports: u32, batch: &[u8]) -> bool
-    requires { ⌜ (legal (now block) ≡ true) × (ports ≤ 64) × SetsFrom (now batch) 0 1 ⌝ }
-    ensures { λ r. ⌜ r ≡ ltb (most t) (length (rowsOf t (contentOf (now (block .entry)))) + absentEach (rowsOf t (contentOf (now (block .entry)))) (firstColumn t) (namedFrom ports (now (batch .entry)) 0 1)) ⌝ }
+fn is_short(block: &[u8], t: Table, model: Model, batch: &[u8]) -> bool
+    requires { ⌜ (legal (now block) ≡ true) × (model .ports ≤ 64) × SetsFrom (now batch) 0 1 ⌝ }
+    ensures { λ r. ⌜ r ≡ shortCounted t (contentOf (now (block .entry))) (namedFrom model (now (batch .entry)) 0 1) ⌝ }
 {
     let at = standing_of(t);
-    at.most < needed(block, t, ports, batch)
+    at.most < needed(block, t, model, batch)
+}
+
+// The number of the first table that has not, 0 if each has.
+pub fn first_short(block: &[u8], model: Model, batch: &[u8]) -> u32
+    requires { ⌜ (legal (now block) ≡ true) × (model .ports ≤ 64) × SetsFrom (now batch) 0 1 ⌝ }
+    ensures { λ r. ⌜ r ≡ firstCounted (contentOf (now (block .entry))) (namedFrom model (now (batch .entry)) 0 1) ⌝ }
+{
+    if is_short(block, Table::Vlan, model, batch) {
+        return VLAN_TABLE;
+    }
+    if is_short(block, Table::Static, model, batch) {
+        return STATIC_TABLE;
+    }
+    if is_short(block, Table::Pair, model, batch) {
+        return PAIR_TABLE;
+    }
+    0
 }

@@ -13,7 +13,7 @@ use Rattle.block.specs.Content.{Content, WellFormed, withStatics}
 use Rattle.block.specs.Image.{image, contentOf}
 use Rattle.block.specs.Lookup.{Sized, keysOf, noStatic}
 use Rattle.block.specs.declared.rows.StaticRow.{StaticRow}
-use Rattle.block.proofs.ReadLaws.{many-vlans, many-statics}
+use Rattle.block.proofs.ReadLaws.{many-vlans, many-statics, many-pairs}
 use Rattle.block.proofs.ImageLaws.{length-image}
 use Rattle.block.specs.Stored.{StaticFits, Storable}
 use Rattle.block.proofs.RoundLaws.{contentOf-stored}
@@ -162,15 +162,18 @@ turned-storable c i s h =
             cellCount = s .shape .cellCount;
             fewVlans = s .shape .fewVlans;
             fewStatics = omega (arith, s .shape .fewStatics);
+            fewPairs = s .shape .fewPairs;
             statusFits = s .shape .statusFits;
           };
       fewPorts = s .fewPorts;
       editionFits = s .editionFits;
+      deviceFits = s .deviceFits;
       addressSize = s .addressSize;
       deletesFit = s .deletesFit;
       cellsFit = s .cellsFit;
       vlansFit = s .vlansFit;
       staticsFit = all-closing (c .statics) i StaticFits (s .staticsFit);
+      pairsFit = s .pairsFit;
     }
 
 -- the image of a content that is read back is held, and has a block's size
@@ -185,6 +188,7 @@ held-sized {b} h =
       long = ap length (sym (h .same)) ∙ length-image (contentOf b) (h .shape);
       fewVlans = omega (arith, many-vlans b, h .shape .fewVlans);
       fewStatics = omega (arith, many-statics b, h .shape .fewStatics);
+      fewPairs = omega (arith, many-pairs b, h .shape .fewPairs);
     }
 
 -- one turn

@@ -11,17 +11,19 @@ use borrow.Author.Tests.{eqb-true}
 use Rattle.names.specs.Index.{canHave, index}
 use Rattle.names.specs.declared.Shape.the-variants.{Static}
 use Rattle.names.specs.Ascending.{All, Rising}
-use Rattle.block.specs.Content.{Content, withStatics}
+use Rattle.names.specs.declared.model.Model.{Model}
+use Rattle.block.specs.Content.{Content, withStatics, modelOf}
 use Rattle.block.specs.Image.{image, contentOf}
 use Rattle.block.specs.Lookup.{keysOf, lookup}
 use Rattle.block.specs.Valid.{rowsOk, staticOk, valid, legal}
 use Rattle.block.specs.declared.rows.StaticRow.{StaticRow}
+use Rattle.block.specs.declared.tables.Table.the-variants.{Static as static}
 use Rattle.block.proofs.ValidParts.{Valid, valid-parts}
 use Rattle.block.proofs.KeepLaws.{RowsOk, rowsOk-parts, parts-rowsOk, rowsOk-rising, valid-statics, least-zero}
 use Rattle.block.proofs.RoundLaws.{contentOf-image, legal-image, legal-valid}
 use Rattle.block.proofs.AlterLaws.{look-below}
 use Rattle.reset.specs.Reset.{goes, stay, afterReset, resetBlock}
-use Rattle.reset.specs.Theorems.{ResetKeepsLegal, ResetKeepsEdition, ResetTwice, rowAfter, ResetRows}
+use Rattle.reset.specs.Theorems.{ResetKeepsLegal, ResetKeepsEdition, ResetKeepsDevice, ResetTwice, rowAfter, ResetRows}
 use Rattle.reset.proofs.ResetLaws.{stay-short, all-stay, rising-stay, stay-twice}
 
 -- a valid content stays valid
@@ -29,7 +31,7 @@ pub reset-valid : (c : Content) → valid c ≡ true → valid (afterReset c) �
 reset-valid c e =
     let v : Valid c = valid-parts c e in
     let n : ℕ = c .ports in
-    let p : RowsOk n Static (staticOk n) 0 (c .statics) = rowsOk-parts n Static (staticOk n) 0 (c .statics) (v .staticsIn) in
+    let p : RowsOk n Static (staticOk n) 0 (c .statics) = rowsOk-parts n Static (staticOk n) 0 (c .statics) (v .rowsIn static) in
     valid-statics c e (stay (c .statics))
     (parts-rowsOk n Static (staticOk n) 0 (stay (c .statics))
     (record {
@@ -37,7 +39,7 @@ reset-valid c e =
       least = least-zero (keysOf (stay (c .statics)));
       each = all-stay (λ e. (canHave n Static (index Static (e .0)) ≡ true) × (staticOk n (e .1) ≡ true)) (c .statics) (p .each);
     }))
-    (omega (arith, stay-short (c .statics), v .fewStatics))
+    (omega (arith, stay-short (c .statics), v .few static))
 
 -- the block after a reset of a legal one
 legal-reset : (b : List ℕ) → legal b ≡ true → resetBlock b ≡ image (afterReset (contentOf b))
@@ -48,12 +50,19 @@ keeps-legal b e =
     let v : valid (afterReset (contentOf b)) ≡ true = reset-valid (contentOf b) (legal-valid b e .0) in
     (rw (legal-reset b e) (legal-image (afterReset (contentOf b)) v), ap contentOf (legal-reset b e) ∙ contentOf-image (afterReset (contentOf b)) v)
 
-pub keeps-edition : ResetKeepsEdition
-keeps-edition b = go (legal b) refl
+-- what set-up fixed stays, of any octets
+keeps-model : (b : List ℕ) → modelOf (contentOf (resetBlock b)) ≡ modelOf (contentOf b)
+keeps-model b = go (legal b) refl
   where
-    go : (t : Bool) → legal b ≡ t → contentOf (resetBlock b) .edition ≡ contentOf b .edition
-    go true e = ap (λ (c : Content). c .edition) (keeps-legal b e .1)
-    go false e = ap (λ (t : Bool). contentOf (cond t (image (afterReset (contentOf b))) b) .edition) e
+    go : (t : Bool) → legal b ≡ t → modelOf (contentOf (resetBlock b)) ≡ modelOf (contentOf b)
+    go true e = ap modelOf (keeps-legal b e .1)
+    go false e = ap (λ (t : Bool). modelOf (contentOf (cond t (image (afterReset (contentOf b))) b))) e
+
+pub keeps-edition : ResetKeepsEdition
+keeps-edition b = ap (λ (m : Model). m .edition) (keeps-model b)
+
+pub keeps-device : ResetKeepsDevice
+keeps-device b = ap (λ (m : Model). m .device) (keeps-model b)
 
 pub twice : ResetTwice
 twice b = go (legal b) refl
@@ -84,4 +93,4 @@ pub rows : ResetRows
 rows b k e =
     ap (λ (c : Content). lookup k (c .statics)) (keeps-legal b e .1)
     ∙ lookup-stay k (contentOf b .statics)
-    (rowsOk-rising (contentOf b .ports) Static (staticOk (contentOf b .ports)) 0 (contentOf b .statics) (valid-parts (contentOf b) (legal-valid b e .0) .staticsIn))
+    (rowsOk-rising (contentOf b .ports) Static (staticOk (contentOf b .ports)) 0 (contentOf b .statics) (valid-parts (contentOf b) (legal-valid b e .0) .rowsIn static))

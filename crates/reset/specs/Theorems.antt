@@ -19,6 +19,10 @@ ResetKeepsLegal = (b : List ℕ) → legal b ≡ true → (legal (resetBlock b) 
 abbrev pub ResetKeepsEdition : Type 0
 ResetKeepsEdition = (b : List ℕ) → contentOf (resetBlock b) .edition ≡ contentOf b .edition
 
+-- No call but set-up changes a block's device ("a second device chosen at set-up", E12), here a reset, of any octets.
+abbrev pub ResetKeepsDevice : Type 0
+ResetKeepsDevice = (b : List ℕ) → contentOf (resetBlock b) .device ≡ contentOf b .device
+
 -- "Resetting twice equals resetting once", of any octets.
 abbrev pub ResetTwice : Type 0
 ResetTwice = (b : List ℕ) → resetBlock (resetBlock b) ≡ resetBlock b

@@ -6,7 +6,7 @@ use native.Mathlib.Omega.{arith}
 use borrow.Author.Tests.{not-true, not-false}
 use Rattle.block.specs.Valid.{legal}
 use Rattle.block.proofs.RoundLaws.{legal-sized}
-use Rattle.batch.proofs.CallLaws.{few-ports, call-illegal, call-refused, call-sets, call-pair, call-vlan, call-static, call-accepted}
+use Rattle.batch.proofs.CallLaws.{few-model, call-illegal, call-refused, call-sets, call-pair, call-room}
 use Rattle.batch.proofs.check.Statement.{statement}
 use Rattle.batch.proofs.check.Tie as tie
 
@@ -28,13 +28,13 @@ first-refused-requires c κs = search needs
 returns-2 : tie.Need-returns-2
 returns-2 c = call-refused (c .before .before .before .before .before .before .before .args .block .now) (c .before .before .before .before .before .before .before .args .batch .now) (ok (c .before .before .before)) (c .before .before .first-refused .ensures) (c .if2 .taken)
 
-ports-requires : tie.Need-ports-requires
-ports-requires c κs = legal-sized _ (ok (c .before .before .before)) .long
+model-requires : tie.Need-model-requires
+model-requires c κs = legal-sized _ (ok (c .before .before .before)) .long
 
 first-pair-requires : tie.Need-first-pair-requires
 first-pair-requires c κs =
     let a = c .before .before .before .before .before .before .before .before .args in
-    (omega (arith, c .ports .ensures, few-ports (a .block .now) (ok (c .before .before .before .before))), call-sets (a .block .now) (a .batch .now) (ok (c .before .before .before .before)) (c .before .before .before .first-refused .ensures) (c .before .if2 .left))
+    (few-model (a .block .now) (ok (c .before .before .before .before)) (c .model .ensures), call-sets (a .block .now) (a .batch .now) (ok (c .before .before .before .before)) (c .before .before .before .first-refused .ensures) (c .before .if2 .left))
 
 cast-offends : tie.Need-cast-offends
 cast-offends c = omega (arith, c .before .before .before .first-pair .ensures .1)
@@ -50,57 +50,27 @@ returns-3 c =
     let a = c .before .before .before .before .before .before .before .before .before .before .before .before .before .before .args in
     let l = ok (c .before .before .before .before .before .before .before .before .before .before) in
     let r = c .before .before .before .before .before .before .before .before .before .first-refused in
-    let p = c .before .before .before .before .before .before .ports in
+    let p = c .before .before .before .before .before .before .model in
     let q = c .before .before .before .before .before .first-pair in
     c .offends .ensures ∙ call-pair (a .block .now) (a .batch .now) l (r .ensures) (c .before .before .before .before .before .before .before .if2 .left) (p .result) (p .ensures) (q .result .first) (q .result .second) (q .ensures .0) (c .before .before .before .if3 .taken)
 
-is-short-requires : tie.Need-is-short-requires
-is-short-requires c κs =
+first-short-requires : tie.Need-first-short-requires
+first-short-requires c κs =
     let a = c .before .before .before .before .before .before .before .before .before .before .before .args in
     let l = ok (c .before .before .before .before .before .before .before) in
-    (l, omega (arith, c .before .before .before .ports .ensures, few-ports (a .block .now) l), call-sets (a .block .now) (a .batch .now) l (c .before .before .before .before .before .before .first-refused .ensures) (c .before .before .before .before .if2 .left))
+    (l, few-model (a .block .now) l (c .before .before .before .model .ensures), call-sets (a .block .now) (a .batch .now) l (c .before .before .before .before .before .before .first-refused .ensures) (c .before .before .before .before .if2 .left))
 
 short-of-requires : tie.Need-short-of-requires
 short-of-requires c κs = search needs
 
 returns-4 : tie.Need-returns-4
 returns-4 c =
-    let a = c .before .before .before .before .before .before .before .before .before .before .before .before .before .before .args in
-    let l = ok (c .before .before .before .before .before .before .before .before .before .before) in
-    let r = c .before .before .before .before .before .before .before .before .before .first-refused in
-    let p = c .before .before .before .before .before .before .ports in
-    let q = c .before .before .before .before .before .first-pair in
-    c .short-of .ensures ∙ call-vlan (a .block .now) (a .batch .now) l (r .ensures) (c .before .before .before .before .before .before .before .if2 .left) (p .result) (p .ensures) (q .result .first) (q .result .second) (q .ensures .0) (c .before .before .before .if3 .left) (c .before .before .is-short .ensures) (c .before .if4 .taken)
-
-is-short-requires-2 : tie.Need-is-short-requires-2
-is-short-requires-2 c κs =
     let a = c .before .before .before .before .before .before .before .before .before .before .before .before .before .args in
     let l = ok (c .before .before .before .before .before .before .before .before .before) in
-    (l, omega (arith, c .before .before .before .before .before .ports .ensures, few-ports (a .block .now) l), call-sets (a .block .now) (a .batch .now) l (c .before .before .before .before .before .before .before .before .first-refused .ensures) (c .before .before .before .before .before .before .if2 .left))
-
-short-of-requires-2 : tie.Need-short-of-requires-2
-short-of-requires-2 c κs = search needs
-
-returns-5 : tie.Need-returns-5
-returns-5 c =
-    let a = c .before .before .before .before .before .before .before .before .before .before .before .before .before .before .before .before .args in
-    let l = ok (c .before .before .before .before .before .before .before .before .before .before .before .before) in
-    let r = c .before .before .before .before .before .before .before .before .before .before .before .first-refused in
-    let p = c .before .before .before .before .before .before .before .before .ports in
-    let q = c .before .before .before .before .before .before .before .first-pair in
-    c .short-of2 .ensures ∙ call-static (a .block .now) (a .batch .now) l (r .ensures) (c .before .before .before .before .before .before .before .before .before .if2 .left) (p .result) (p .ensures) (q .result .first) (q .result .second) (q .ensures .0) (c .before .before .before .before .before .if3 .left) (c .before .before .before .before .is-short .ensures) (c .before .before .before .if4 .left) (c .before .before .is-short2 .ensures) (c .before .if5 .taken)
-
-accepted-requires : tie.Need-accepted-requires
-accepted-requires c κs = search needs
-
-returns-6 : tie.Need-returns-6
-returns-6 c =
-    let a = c .before .before .before .before .before .before .before .before .before .before .before .before .before .before .before .before .args in
-    let l = ok (c .before .before .before .before .before .before .before .before .before .before .before .before) in
-    let r = c .before .before .before .before .before .before .before .before .before .before .before .first-refused in
-    let p = c .before .before .before .before .before .before .before .before .ports in
-    let q = c .before .before .before .before .before .before .before .first-pair in
-    c .accepted .ensures ∙ call-accepted (a .block .now) (a .batch .now) l (r .ensures) (c .before .before .before .before .before .before .before .before .before .if2 .left) (p .result) (p .ensures) (q .result .first) (q .result .second) (q .ensures .0) (c .before .before .before .before .before .if3 .left) (c .before .before .before .before .is-short .ensures) (c .before .before .before .if4 .left) (c .before .before .is-short2 .ensures) (c .before .if5 .left)
+    let r = c .before .before .before .before .before .before .before .before .first-refused in
+    let p = c .before .before .before .before .before .model in
+    let q = c .before .before .before .before .first-pair in
+    c .short-of .ensures ∙ call-room (a .block .now) (a .batch .now) l (r .ensures) (c .before .before .before .before .before .before .if2 .left) (p .result) (p .ensures) (q .result .first) (q .result .second) (q .ensures .0) (c .before .before .if3 .left) (c .before .first-short .ensures)
 
 pub check-spec : {M : Type 1} → statement M
 check-spec =
@@ -111,17 +81,12 @@ check-spec =
     returns
     first-refused-requires
     returns-2
-    ports-requires
+    model-requires
     first-pair-requires
     cast-offends
     cast-offends-2
     offends-requires
     returns-3
-    is-short-requires
+    first-short-requires
     short-of-requires
-    returns-4
-    is-short-requires-2
-    short-of-requires-2
-    returns-5
-    accepted-requires
-    returns-6)
+    returns-4)

@@ -32,7 +32,7 @@ group-of-requires : tie.Need-group-of-requires
 group-of-requires c κs =
     let d = c .before .before .before in
     let a = d .before .before in
-    target-tells (a .args .ports) (subids (a .args .name .now)) (a .pre) (sym (c .before .target .given .1) ∙ d .target-of .ensures) .0
+    target-tells (a .args .model) (subids (a .args .name .now)) (a .pre) (sym (c .before .target .given .1) ∙ d .target-of .ensures) .0
 
 returns-3 : tie.Need-returns-3
 unfolding groupOf
@@ -40,7 +40,7 @@ returns-3 c =
     let d = c .before .before .before .before in
     let a = d .before .before in
     let e = sym (c .before .before .target .given .1) ∙ d .target-of .ensures in
-    group-here _ _ (c .group-of .ensures) (target-tells (a .args .ports) (subids (a .args .name .now)) (a .pre) e .0) ∙ ap grouped e
+    group-here _ _ (c .group-of .ensures) (target-tells (a .args .model) (subids (a .args .name .now)) (a .pre) e .0) ∙ ap grouped e
 
 pub group-named-spec : {M : Type 1} → statement M
 group-named-spec =
