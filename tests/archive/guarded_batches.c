@@ -103,7 +103,7 @@ static void play_bridge(uint32_t ports, uint32_t rows)
     static uint8_t own[RB_BLOCK_SIZE], hurt[RB_BLOCK_SIZE];
     static const uint8_t address[RB_ADDRESS_SIZE] = {2, 0, 0, 0, 0, 1};
 
-    REQUIRE(rb_setup(own, sizeof own, ports, RB_EDITION_OLD, address, sizeof address).number == RB_ANSWERED, "set-up");
+    REQUIRE(rb_setup(own, sizeof own, ports, RB_EDITION_OLD, RB_DEVICE_TRANSPARENT, address, sizeof address).number == RB_ANSWERED, "set-up");
     fill(own, rows);
     for (unsigned i = 0; i < PLAYS; i++) {
         make_batch();

@@ -100,7 +100,7 @@ int main(void)
         /* 13 scalars; 11 columns of ports, two of ports and priorities; 5 columns of VLAN rows, 4 of static rows */
         unsigned fixed = 13 + 27 * n, fresh = fixed + 5, full = fixed + 5 * ROWS + 4 * ROWS;
 
-        REQUIRE(rb_setup(block, sizeof block, n, RB_EDITION_OLD, address, sizeof address).number == RB_ANSWERED, "set-up of %u", n);
+        REQUIRE(rb_setup(block, sizeof block, n, RB_EDITION_OLD, RB_DEVICE_TRANSPARENT, address, sizeof address).number == RB_ANSWERED, "set-up of %u", n);
         REQUIRE(walk() == fresh, "%u ports: not %u instances", n, fresh);
         fill_vlans();
         fill_statics(n);
