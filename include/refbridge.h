@@ -145,8 +145,9 @@ enum rb_edition {
     RB_EDITION_NEW = 2
 };
 
-/* What a bridge is. The first device has every object of BRIDGE-MIB, P-BRIDGE-MIB and Q-BRIDGE-MIB that this bridge plays. The second has those under 17.1, with Type 3, each
- * port's largest frame (17.3.1.1.6: one of the 64 numbers that IEEE 802.5M lists, 1470 at first) and the table of port pairs (17.3.5.1), and no others; no edition shows in it. */
+/* The devices that a bridge may be. A source-routing one has the objects under 17.1, with Type 3, the largest frame of each port (17.3.1.1.6: one of 64
+ * numbers, 1470 at first), the table of port pairs (17.3.5.1: at most 64, none at first), and no others. A transparent one has all others and those under
+ * 17.1, with Type 2. */
 enum rb_device {
     RB_DEVICE_TRANSPARENT = 1,
     RB_DEVICE_SOURCE_ROUTING = 2
@@ -202,8 +203,8 @@ typedef struct {
 
 /* Checks whether set messages may be played on the block in any order: each can be read, no two name a common row or scalar (the three bridge timers count as
  * one), and in each growing table the live rows and all absent rows that are named are at most 256, or 64 port pairs. The batch is up to 64 messages, each in
- * a frame as the serial console has it; it may be empty. Returns 0, 3, 4 to 8 (7 for a message that is no set), 21, 22 or 23, judged 3 first and then from left to right.
- * Nothing is written. An accepted batch is answered with the same octets in every order, and leaves the same block. */
+ * a frame as the serial console has it; it may be empty. Returns 0, 3, 4 to 8 (7 for a message that is no set), 21, 22 or 23, judged 3 first and then from
+ * left to right. Nothing is written. An accepted batch is answered with the same octets in every order, and leaves the same block. */
 rb_batch rb_check_batch(const uint8_t *block, size_t block_len, const uint8_t *batch, size_t batch_len);
 
 /* Whose walk it is. */
