@@ -16,7 +16,7 @@ static void make_call(const void *with)
     const struct call *call = with;
 
     if (call->request == NULL) {
-        rb_setup(call->block, RB_BLOCK_SIZE, call->ports, RB_EDITION_OLD, address, sizeof address);
+        rb_setup(call->block, RB_BLOCK_SIZE, call->ports, RB_EDITION_OLD, RB_DEVICE_TRANSPARENT, address, sizeof address);
     } else {
         rb_answer(call->block, RB_BLOCK_SIZE, call->request, call->length, call->room, RB_MESSAGE_MAX);
     }

@@ -183,7 +183,7 @@ void make_bridge(struct bridge *bridge, const char *title, uint32_t ports, bool 
     bridge->title = title;
     bridge->ports = ports;
     bridge->full = full;
-    REQUIRE(rb_setup(bridge->block, RB_BLOCK_SIZE, ports, RB_EDITION_OLD, address, sizeof address).number == RB_ANSWERED,
+    REQUIRE(rb_setup(bridge->block, RB_BLOCK_SIZE, ports, RB_EDITION_OLD, RB_DEVICE_TRANSPARENT, address, sizeof address).number == RB_ANSWERED,
             "set-up");
     for (uint32_t i = 0; full && i < ROWS; i++) {
         make_vlan_row(bridge, i);

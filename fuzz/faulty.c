@@ -8,13 +8,18 @@
  *   9 a fault names no binding                    10 the number is none of 0 to 8
  *  11 a value is of another type than its object   12 an accepted set is one that must not be
  *  13 an offset is past the request's end          14 a return that is not 4 to 8 has an offset
- *  15 a 17th binding has the offset of its contents  16 timers are accepted that do not belong together */
+ *  15 a 17th binding has the offset of its contents  16 timers are accepted that do not belong together
+ *  17 a largest frame is answered that there is not  18 a port pair goes, and its bridge number is accepted */
 #include <stdlib.h>
+#include <string.h>
 
 #include "message.h"
 #include "refbridge.h"
 
-enum { AT_DELETES = 4, AT_FREE = 31, HEADER_OCTETS = 3, NUMBER_OCTETS = 4 };
+enum { AT_DELETES = 4, AT_FREE = 26, HEADER_OCTETS = 3, NUMBER_OCTETS = 4 };
+
+/* The largest frame of a fresh port, and one beside it, by their last two octets. */
+static const uint8_t fresh_frame[] = {0x05, 0xBE}, no_frame[] = {0x05, 0xBF};
 
 /* Of a number at the end of an answer, with its header. */
 enum { CONTENT_OCTETS = HEADER_OCTETS + NUMBER_OCTETS };
@@ -71,6 +76,16 @@ static void break_answer(uint8_t *block, uint8_t *request, size_t request_len, u
         break;
     case 16:
         if (request[KIND_AT] == RB_SET && room[STATUS_AT] == RB_INCONSISTENT_VALUE) {
+            room[STATUS_AT] = room[INDEX_AT] = 0;
+        }
+        break;
+    case 17:
+        if (request[KIND_AT] == RB_GET && memcmp(room + result->count - 2, fresh_frame, 2) == 0) {
+            memcpy(room + result->count - 2, no_frame, 2);
+        }
+        break;
+    case 18:
+        if (request[KIND_AT] == RB_SET && room[STATUS_AT] == RB_INCONSISTENT_NAME) {
             room[STATUS_AT] = room[INDEX_AT] = 0;
         }
         break;

@@ -24,9 +24,9 @@ static size_t read_step(struct step *step, const uint8_t *octets, size_t length)
 
 void input_read(struct input *input, const uint8_t *octets, size_t length)
 {
-    size_t at = 1;
+    size_t at = 2;
 
-    input->start = length > 0 ? octets[0] : 0;
+    input->start = length > 1 ? (uint16_t)(octets[0] << 8 | octets[1]) : 0;
     input->count = 0;
     while (at < length && input->count < STEPS_MAX) {
         at += read_step(&input->steps[input->count++], octets + at, length - at);
@@ -37,10 +37,11 @@ size_t input_write(const struct input *input, uint8_t *octets, size_t room)
 {
     size_t at = 0;
 
-    if (room == 0) {
+    if (room < 2) {
         return 0;
     }
-    octets[at++] = input->start;
+    octets[at++] = (uint8_t)(input->start >> 8);
+    octets[at++] = (uint8_t)input->start;
     for (size_t i = 0; i < input->count; i++) {
         const struct step *step = &input->steps[i];
 

@@ -1,8 +1,9 @@
 /* The form of a fuzzer's input: how the bridge starts, then steps.
  *
- * The first octet: its low six bits are the number of ports less one; the bit 0x40 says that both growing tables have
- * 256 rows, the bit 0x80 that the bridge is of edition 2. Then each step is a field as in a message: a tag, two octets of length, contents. An input that is cut is
- * taken as far as it goes, so that every input is one. */
+ * The first two octets are a number: its low six bits are the number of ports less one; the bit 0x40 says that the growing
+ * tables have all rows that there can be, the bit 0x80 that the bridge is of edition 2, the bit 0x100 that it is a
+ * source-routing one, device 2. Then each step is a field as in a message: a tag, two octets of length, contents. An input
+ * that is cut is taken as far as it goes, so that every input is one. */
 #ifndef FUZZ_INPUT_H
 #define FUZZ_INPUT_H
 
@@ -25,7 +26,7 @@ enum step_tag {
     STEP_SIZE = 0xA3     /* two octets: the length of the block that the next request is given */
 };
 
-enum { START_PORTS = 0x3F, START_FULL = 0x40, START_EDITION = 0x80 };
+enum { START_PORTS = 0x3F, START_FULL = 0x40, START_EDITION = 0x80, START_DEVICE = 0x100 };
 
 struct step {
     uint8_t tag;
@@ -34,7 +35,7 @@ struct step {
 };
 
 struct input {
-    uint8_t start;
+    uint16_t start;
     size_t count;
     struct step steps[STEPS_MAX];
 };

@@ -52,7 +52,7 @@ static void finish_input(const char *folder)
     write_input(folder);
     input.start |= START_FULL;
     write_input(folder);
-    input.start &= (uint8_t)~START_FULL;
+    input.start &= (uint16_t)~START_FULL;
     input.count = 0;
     input_octets = 0;
 }
@@ -124,8 +124,9 @@ static void take_command(const char *folder, const struct command *command)
 {
     if (command->kind == COMMAND_BRIDGE) {
         finish_input(folder);
-        input.start = (uint8_t)((command->number - 1) & START_PORTS);
+        input.start = (uint16_t)((command->number - 1) & START_PORTS);
         input.start |= command->edition == RB_EDITION_NEW ? START_EDITION : 0;
+        input.start |= command->device == RB_DEVICE_SOURCE_ROUTING ? START_DEVICE : 0;
         return;
     }
     if (input.count == SEED_STEPS || input_octets > SEED_OCTETS) {

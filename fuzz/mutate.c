@@ -26,8 +26,9 @@ struct request {
 static uint32_t any_number(struct dice *dice)
 {
     static const uint32_t ends[] = {0,    1,    2,    3,     4,     5,       6,          7,          8,
-                                    10,   63,   64,   65,    127,   128,     255,        256,        257,
-                                    4093, 4094, 4095, 65535, 65536, 1000000, 0x7FFFFFFF, 0x80000000, 0xFFFFFFFF};
+                                    10,   15,   16,   63,    64,    65,      127,        128,        255,
+                                    256,  257,  516,  1470,  1500,  4093,    4094,       4095,       65535,
+                                    65536, 1000000, 0x7FFFFFFF, 0x80000000, 0xFFFFFFFF};
 
     return once_in(dice, 6) ? below(dice, UINT32_MAX) : ends[below(dice, sizeof ends / sizeof ends[0])];
 }
@@ -209,7 +210,8 @@ static void change_request(struct dice *dice, struct step *step, const struct st
 /* A few octets of the block, mostly of those that hold something. */
 static void make_patch(struct dice *dice, struct step *step)
 {
-    static const uint32_t starts[] = {0, 16, 32, 816, 5172, 5940, 6196, 6256, 21496, 21556, 25636, 25652, 32760};
+    static const uint32_t starts[] = {0,    16,   32,    816,   1072,  5428,  5940, 6196,
+                                      6256, 21496, 21556, 25636, 25652, 25844, 32760};
     uint32_t place = starts[below(dice, sizeof starts / sizeof starts[0])] + below(dice, 64);
 
     step_put_number(step, STEP_PATCH, once_in(dice, 4) ? below(dice, RB_BLOCK_SIZE) : place);
@@ -254,11 +256,12 @@ static void remove_step(struct dice *dice, struct input *input)
 
 static void change_start(struct dice *dice, struct input *input)
 {
-    static const uint8_t ports[] = {1, 2, 4, 7, 8, 9, 33, 63, 64};
+    static const uint8_t ports[] = {1, 2, 4, 7, 8, 9, 12, 33, 63, 64};
 
-    input->start = (uint8_t)(ports[below(dice, sizeof ports)] - 1);
+    input->start = (uint16_t)(ports[below(dice, sizeof ports)] - 1);
     input->start |= once_in(dice, 3) ? START_FULL : 0;
     input->start |= once_in(dice, 3) ? START_EDITION : 0;
+    input->start |= once_in(dice, 3) ? START_DEVICE : 0;
 }
 
 static void change_input(struct dice *dice, struct input *input)

@@ -8,6 +8,9 @@
 
 enum { STATUSES = 19, PRIORITIES = 8, VLAN_MAX = 4094, OCTET_MAX = 255, TIMERS = 3 };
 
+/* The state that removes a port pair, and where under the bridge a pair's name has its column. */
+enum { PAIR_INVALID = 3, PAIR_COLUMN = 3 };
+
 #define SECOND 100u /* in hundredths */
 
 static uint32_t number_of(const struct value *value)
@@ -34,6 +37,8 @@ static bool is_index(const struct object *object, const uint32_t *index, size_t 
         return is_port(index[0], ports) && index[1] < PRIORITIES;
     case BY_VLAN:
         return index[0] >= 1 && index[0] <= VLAN_MAX;
+    case BY_PORT_PAIR:
+        return is_port(index[0], ports) && is_port(index[1], ports) && index[0] < index[1];
     case BY_STATIC:
         for (size_t i = 0; i + 1 < count; i++) {
             if (index[i] > OCTET_MAX) {
@@ -46,19 +51,26 @@ static bool is_index(const struct object *object, const uint32_t *index, size_t 
     }
 }
 
-/* True where the object's row of the table allows the value: its type, its range or length, and in edition 2 its step. */
-static bool is_value(const struct object *object, const struct value *value, uint32_t edition)
+/* True where the object can have the value on a bridge of this kind: its type, and its number or length. */
+static bool is_value(const struct object *object, const struct value *value, struct bridge_kind kind)
 {
     uint32_t size = value->tag == RB_TAG_STRING ? (uint32_t)value->count : number_of(value);
-    uint32_t step = edition == RB_EDITION_NEW ? object_step(object) : 1;
 
-    return value->tag == object->tag && size >= object->low && size <= object->high && size % step == 0;
+    return value->tag == object->tag && object_takes(object, kind.edition, kind.device, size);
+}
+
+/* The object whose name is a prefix of this one, of those that the bridge's device has, or NULL. */
+static const struct object *object_of(const struct binding *binding, struct bridge_kind kind)
+{
+    const struct object *object = name_object(&binding->name);
+
+    return object != NULL && object_is_of(object, kind.device) ? object : NULL;
 }
 
 /* True for an instance of the object table with a value that it can have. */
 static bool is_instance(const struct binding *binding, struct bridge_kind kind)
 {
-    const struct object *object = name_object(&binding->name);
+    const struct object *object = object_of(binding, kind);
     size_t before;
 
     if (object == NULL) {
@@ -66,7 +78,7 @@ static bool is_instance(const struct binding *binding, struct bridge_kind kind)
     }
     before = BRIDGE_SUBS + (size_t)object->count;
     return is_index(object, binding->name.sub + before, binding->name.count - before, kind.ports) &&
-           is_value(object, &binding->value, kind.edition);
+           is_value(object, &binding->value, kind);
 }
 
 static bool is_exception(uint8_t tag)
@@ -74,9 +86,9 @@ static bool is_exception(uint8_t tag)
     return tag == RB_TAG_NO_SUCH_OBJECT || tag == RB_TAG_NO_SUCH_INSTANCE || tag == RB_TAG_END_OF_MIB_VIEW;
 }
 
-static const char *get_flaw(const struct binding *asked, const struct binding *got)
+static const char *get_flaw(const struct binding *asked, const struct binding *got, struct bridge_kind kind)
 {
-    bool known = name_object(&asked->name) != NULL;
+    bool known = object_of(asked, kind) != NULL;
 
     if (name_order(&got->name, &asked->name) != 0) {
         return "a get is answered with another name";
@@ -111,7 +123,7 @@ static const char *gets_flaw(struct answer request, struct answer answer, struct
         return "a get is answered with a fault";
     }
     while (answer_binding(&answer, &got) && answer_binding(&request, &asked)) {
-        const char *flaw = request.kind == RB_GET ? get_flaw(&asked, &got) : next_flaw(&asked, &got);
+        const char *flaw = request.kind == RB_GET ? get_flaw(&asked, &got, kind) : next_flaw(&asked, &got);
         if (flaw != NULL) {
             return flaw;
         }
@@ -146,10 +158,31 @@ static bool timers_agree(const uint32_t timers[TIMERS])
     return 2 * (timers[2] - SECOND) >= timers[0] && timers[0] >= 2 * (timers[1] + SECOND);
 }
 
-/* A set without a fault writes objects that can be written, with values that they can have, and timers that belong
- * together. */
+/* True where the set also binds the bridge number of the pair that this binding removes: the pair stands and goes, or is
+ * absent and not made, and neither takes a number. */
+static bool numbers_what_goes(struct answer request, const struct binding *binding)
+{
+    struct name number = binding->name;
+    struct binding other;
+
+    if (strcmp(name_object(&binding->name)->name, "dot1dPortPairBridgeState") != 0 ||
+        number_of(&binding->value) != PAIR_INVALID) {
+        return false;
+    }
+    number.sub[BRIDGE_SUBS + PAIR_COLUMN]--; /* the column before the state */
+    while (answer_binding(&request, &other)) {
+        if (name_order(&other.name, &number) == 0) {
+            return true;
+        }
+    }
+    return false;
+}
+
+/* A set without a fault writes objects that can be written, with values that they can have, timers that belong together,
+ * and no number of a pair that it removes. */
 static const char *accepted_flaw(struct answer request, struct bridge_kind kind)
 {
+    const struct answer whole = request;
     uint32_t timers[TIMERS] = {0};
     struct binding binding;
     size_t place;
@@ -157,6 +190,9 @@ static const char *accepted_flaw(struct answer request, struct bridge_kind kind)
     while (answer_binding(&request, &binding)) {
         if (!is_instance(&binding, kind) || name_object(&binding.name)->access != WRITABLE) {
             return "a set is accepted that writes what cannot be written";
+        }
+        if (numbers_what_goes(whole, &binding)) {
+            return "a set is accepted that removes a port pair and writes its bridge number";
         }
         if (is_timer(&binding, &place)) {
             timers[place] = number_of(&binding.value);

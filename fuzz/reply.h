@@ -8,6 +8,7 @@
 struct bridge_kind {
     uint32_t ports;
     uint32_t edition;
+    uint32_t device;
 };
 
 /* What is wrong with an answer to a request that was answered, on a bridge of this kind, in words, or NULL. */

@@ -178,14 +178,15 @@ static void print_hex(const char *command, const uint8_t *octets, size_t length)
 }
 
 /* Set-up, and what full tables have beyond it. */
-static void print_start(uint8_t start)
+static void print_start(uint16_t start)
 {
     static uint8_t fresh[RB_BLOCK_SIZE], block[RB_BLOCK_SIZE];
     char command[32];
 
-    start_bridge(fresh, start & (START_PORTS | START_EDITION));
+    start_bridge(fresh, (uint16_t)(start & ~START_FULL));
     start_bridge(block, start);
-    printf("bridge %d 00:11:22:33:44:55%s\n", 1 + (start & START_PORTS), start & START_EDITION ? " edition 2" : "");
+    printf("bridge %d 00:11:22:33:44:55%s%s\n", 1 + (start & START_PORTS), start & START_EDITION ? " edition 2" : "",
+           start & START_DEVICE ? " device 2" : "");
     for (size_t at = 0; at < RB_BLOCK_SIZE; at += 32) {
         if (memcmp(block + at, fresh + at, 32) != 0) {
             snprintf(command, sizeof command, "poke %zu", at);

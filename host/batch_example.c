@@ -66,7 +66,7 @@ int main(void)
 {
     static const uint8_t address[RB_ADDRESS_SIZE] = {0x00, 0x11, 0x22, 0x33, 0x44, 0x55};
 
-    if (rb_setup(one, sizeof one, 4, RB_EDITION_OLD, address, sizeof address).number != RB_ANSWERED) {
+    if (rb_setup(one, sizeof one, 4, RB_EDITION_OLD, RB_DEVICE_TRANSPARENT, address, sizeof address).number != RB_ANSWERED) {
         return 1;
     }
     memcpy(other, one, sizeof other);

@@ -48,7 +48,10 @@ static struct gathering gathering;
 
 static const char *table_name(uint32_t table)
 {
-    return table == RB_TABLE_VLAN ? "VLAN" : "static";
+    static const char *const names[] = {
+        [RB_TABLE_VLAN] = "VLAN", [RB_TABLE_STATIC] = "static", [RB_TABLE_PORT_PAIRS] = "port pair"};
+
+    return table < sizeof names / sizeof names[0] ? names[table] : "unknown";
 }
 
 /* The start of a command, as much as a terminal shows of it. */

@@ -110,12 +110,15 @@ static void note_flaw(struct reply *reply, const char *flaw, size_t request_coun
     reply->flaw = flaw != NULL ? flaw : offset_flaw(reply, request_count);
 }
 
-struct reply bridge_setup(struct bridge *bridge, uint32_t ports, uint32_t edition, const struct octets *address)
+struct reply bridge_setup(struct bridge *bridge, const struct command *command)
 {
+    const struct octets *address = &command->octets;
+    uint32_t ports = command->number;
     struct reply reply;
 
     note_before(bridge);
-    reply = make_reply(rb_setup(bridge->block, bridge->block_lent, ports, edition, address->at, address->count));
+    reply = make_reply(rb_setup(bridge->block, bridge->block_lent, ports, command->edition, command->device,
+                                address->at, address->count));
     note_flaw(&reply, block_call_flaw(bridge, &reply, RB_SETUP_REFUSED), 0);
     if (reply.number == RB_ANSWERED) {
         bridge->ports = ports;

@@ -28,7 +28,8 @@ void bridge_clear(struct bridge *bridge);
 /* The lengths as they should be again. */
 void bridge_lend_whole(struct bridge *bridge);
 
-struct reply bridge_setup(struct bridge *bridge, uint32_t ports, uint32_t edition, const struct octets *address);
+/* The bridge of a command `bridge`. */
+struct reply bridge_setup(struct bridge *bridge, const struct command *command);
 
 /* The answer's octets are at the start of the room. */
 struct reply bridge_answer(struct bridge *bridge, const struct octets *request);

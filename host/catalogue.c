@@ -8,8 +8,17 @@
 
 static const char *const indexes[] = {
     [SCALAR] = "0",     [BY_PORT] = "port",           [BY_PORT_AND_PRIORITY] = "port.priority",
-    [BY_VLAN] = "vlan", [BY_STATIC] = "address.port",
+    [BY_VLAN] = "vlan", [BY_STATIC] = "address.port", [BY_PORT_PAIR] = "port.port",
 };
+
+/* Which devices have an object or a table. */
+static const char *devices(const struct object *object)
+{
+    bool transparent = object_is_of(object, RB_DEVICE_TRANSPARENT);
+    bool routing = object_is_of(object, RB_DEVICE_SOURCE_ROUTING);
+
+    return transparent && routing ? "devices 1 and 2" : transparent ? "device 1" : "device 2";
+}
 
 static const char *type_name(const struct object *object)
 {
@@ -46,15 +55,15 @@ static void print_object(const struct object *object)
     printf("%-30s", object->name);
     print_identifier(object);
     if (object->show == SHOW_TABLE) {
-        puts("table");
+        printf("%-17stable\n", devices(object));
         return;
     }
-    printf("%-9s%-10s%-20s%s", type_name(object), object->access == WRITABLE ? "writable" : "read-only", range,
-           indexes[object->index]);
+    printf("%-17s%-9s%-10s%-20s%s", devices(object), type_name(object),
+           object->access == WRITABLE ? "writable" : "read-only", range, indexes[object->index]);
     if (object_step(object) != 1) {
         printf("    # edition 2: in steps of %" PRIu32, object_step(object));
     }
-    puts("");
+    puts(object_has_frames(object) ? "    # one of 64 numbers" : "");
 }
 
 void catalogue_print(void)

@@ -28,22 +28,33 @@ static bool read_address(struct text *text, struct octets *octets, struct compla
     }
 }
 
-/* The words `edition E` at the end of the line, or nothing. Any number is taken, to try what set-up refuses. */
-static bool read_edition(struct text *text, uint32_t *edition, struct complaint *why)
+/* The words `edition E` and `device D` at the end of the line, in either order, each once or not at all. Any number is
+ * taken, to try what set-up refuses. */
+static bool read_model(struct text *text, struct command *command, struct complaint *why)
 {
-    struct text word;
-    uint64_t number = RB_EDITION_OLD;
+    struct {
+        const char *word, *what;
+        uint32_t *place;
+        bool taken;
+    } options[] = {{"edition", "the edition", &command->edition, false}, {"device", "the device", &command->device, false}};
 
-    if (!text_is_done(text)) {
-        word = text_word(text, "");
-        if (!text_is(word, "edition")) {
-            return complain(why, "after the address stands nothing, or edition E: '%.*s'", text_quoted(word), word.at);
+    command->edition = RB_EDITION_OLD;
+    command->device = RB_DEVICE_TRANSPARENT;
+    while (!text_is_done(text)) {
+        struct text word = text_word(text, "");
+        size_t i = text_is(word, options[0].word) ? 0 : 1;
+        uint64_t number;
+
+        if (!text_is(word, options[i].word) || options[i].taken) {
+            return complain(why, "after the address stand edition E and device D, each once or not at all: '%.*s'",
+                            text_quoted(word), word.at);
         }
-        if (!text_take_number(text, "the edition", UINT32_MAX, &number, why)) {
+        if (!text_take_number(text, options[i].what, UINT32_MAX, &number, why)) {
             return false;
         }
+        *options[i].place = (uint32_t)number;
+        options[i].taken = true;
     }
-    *edition = (uint32_t)number;
     return true;
 }
 
@@ -55,7 +66,7 @@ static bool read_bridge(struct text *text, struct command *command, struct compl
         return false;
     }
     command->number = (uint32_t)ports;
-    return read_address(text, &command->octets, why) && read_edition(text, &command->edition, why);
+    return read_address(text, &command->octets, why) && read_model(text, command, why);
 }
 
 static bool add_binding(struct command *command, const struct name *name, const struct value *value,

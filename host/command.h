@@ -29,6 +29,7 @@ struct command {
     enum command_kind kind;
     uint32_t number;      /* a case's id, ports, an offset, a length, a timer */
     uint32_t edition;     /* of a bridge */
+    uint32_t device;      /* of a bridge */
     struct octets octets; /* a request, an address, octets to poke */
     struct name name;     /* where a walk starts */
     struct text title;    /* of a case */

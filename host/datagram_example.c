@@ -39,7 +39,7 @@ int main(void)
     rb_datagram read;
     rb_result answered, written;
 
-    check("rb_setup", rb_setup(block, sizeof block, 4, RB_EDITION_OLD, address, sizeof address).number);
+    check("rb_setup", rb_setup(block, sizeof block, 4, RB_EDITION_OLD, RB_DEVICE_TRANSPARENT, address, sizeof address).number);
 
     read = rb_from_datagram(request, sizeof request, message, sizeof message);
     check("rb_from_datagram", read.number);

@@ -68,7 +68,7 @@ int main(void)
     unsigned instances = 0;
     const uint8_t *content;
 
-    check("rb_setup", rb_setup(block, sizeof block, 4, RB_EDITION_OLD, address, sizeof address));
+    check("rb_setup", rb_setup(block, sizeof block, 4, RB_EDITION_OLD, RB_DEVICE_TRANSPARENT, address, sizeof address));
     content = ask(RB_GET, num_ports, sizeof num_ports, null, sizeof null);
     printf("NumPorts is %lu\n", number(content));
 

@@ -10,13 +10,20 @@
 #define STRING RB_TAG_STRING
 #define NO_VALUES SCALAR, READ_ONLY, RB_TAG_NULL, 0, 0 /* a table */
 
+/* dot1dBaseType of each device: transparent-only and sourceroute-only. */
+enum { TYPE_TRANSPARENT = 2, TYPE_SOURCE_ROUTING = 3 };
+
+/* The first sub-id of an object says its group. Every device has the base group; source routing has its own group besides,
+ * and a transparent bridge all others. */
+enum { GROUP_BASE = 1, GROUP_SOURCE_ROUTING = 3 };
+
 const uint32_t bridge_name[BRIDGE_SUBS] = {1, 3, 6, 1, 2, 1, 17};
 
 static const struct object objects[] = {
     {"dot1dBridge", SHOW_TABLE, 0, {0}, NO_VALUES},
     {"dot1dBaseBridgeAddress", SHOW_OCTETS, 2, {1, 1}, SCALAR, READ_ONLY, STRING, 6, 6},
     {"dot1dBaseNumPorts", SHOW_OCTETS, 2, {1, 2}, SCALAR, READ_ONLY, INTEGER, 1, 64},
-    {"dot1dBaseType", SHOW_OCTETS, 2, {1, 3}, SCALAR, READ_ONLY, INTEGER, 2, 2},
+    {"dot1dBaseType", SHOW_OCTETS, 2, {1, 3}, SCALAR, READ_ONLY, INTEGER, TYPE_TRANSPARENT, TYPE_SOURCE_ROUTING},
     {"dot1dBasePortTable", SHOW_TABLE, 2, {1, 4}, NO_VALUES},
     {"dot1dBasePort", SHOW_OCTETS, 4, {1, 4, 1, 1}, BY_PORT, READ_ONLY, INTEGER, 1, 64},
     {"dot1dBasePortIfIndex", SHOW_OCTETS, 4, {1, 4, 1, 2}, BY_PORT, READ_ONLY, INTEGER, 1, 64},
@@ -29,6 +36,13 @@ static const struct object objects[] = {
     {"dot1dStpPortPriority", SHOW_OCTETS, 4, {2, 15, 1, 2}, BY_PORT, WRITABLE, INTEGER, 0, 255},
     {"dot1dStpPortEnable", SHOW_OCTETS, 4, {2, 15, 1, 4}, BY_PORT, WRITABLE, INTEGER, 1, 2},
     {"dot1dStpPortPathCost", SHOW_OCTETS, 4, {2, 15, 1, 5}, BY_PORT, WRITABLE, INTEGER, 1, 65535},
+    {"dot1dSrPortTable", SHOW_TABLE, 2, {3, 1}, NO_VALUES},
+    {"dot1dSrPortLargestFrame", SHOW_OCTETS, 4, {3, 1, 1, 6}, BY_PORT, WRITABLE, INTEGER, 516, 65535},
+    {"dot1dPortPairTable", SHOW_TABLE, 2, {3, 5}, NO_VALUES},
+    {"dot1dPortPairLowPort", SHOW_OCTETS, 4, {3, 5, 1, 1}, BY_PORT_PAIR, READ_ONLY, INTEGER, 1, 64},
+    {"dot1dPortPairHighPort", SHOW_OCTETS, 4, {3, 5, 1, 2}, BY_PORT_PAIR, READ_ONLY, INTEGER, 1, 64},
+    {"dot1dPortPairBridgeNum", SHOW_OCTETS, 4, {3, 5, 1, 3}, BY_PORT_PAIR, WRITABLE, INTEGER, 0, 15},
+    {"dot1dPortPairBridgeState", SHOW_OCTETS, 4, {3, 5, 1, 4}, BY_PORT_PAIR, WRITABLE, INTEGER, 1, 3},
     {"dot1dTpAgingTime", SHOW_OCTETS, 2, {4, 2}, SCALAR, WRITABLE, INTEGER, 10, 1000000},
     {"dot1dStaticTable", SHOW_TABLE, 2, {5, 1}, NO_VALUES},
     {"dot1dStaticAddress", SHOW_OCTETS, 4, {5, 1, 1, 1}, BY_STATIC, READ_ONLY, STRING, 6, 6},
@@ -108,6 +122,7 @@ size_t object_index_subs(const struct object *object)
 {
     switch (object->index) {
     case BY_PORT_AND_PRIORITY:
+    case BY_PORT_PAIR:
         return 2;
     case BY_STATIC:
         return INDEX_SUBS_MAX;
@@ -129,6 +144,56 @@ uint32_t object_step(const struct object *object)
         }
     }
     return 1;
+}
+
+bool object_is_of(const struct object *object, uint32_t device)
+{
+    if (object->count == 0 || object->sub[0] == GROUP_BASE) {
+        return true;
+    }
+    return (object->sub[0] == GROUP_SOURCE_ROUTING) == (device == RB_DEVICE_SOURCE_ROUTING);
+}
+
+/* The numbers that IEEE 802.5M has for the largest frame of a port. */
+static const uint16_t largest_frames[] = {
+    516,   635,   754,   873,   993,   1112,  1231,  1350,  1470,  1542,  1615,  1688,  1761,  1833,  1906,  1979,
+    2052,  2345,  2638,  2932,  3225,  3518,  3812,  4105,  4399,  4865,  5331,  5798,  6264,  6730,  7197,  7663,
+    8130,  8539,  8949,  9358,  9768,  10178, 10587, 10997, 11407, 12199, 12992, 13785, 14578, 15370, 16163, 16956,
+    17749, 20730, 23711, 26693, 29674, 32655, 35637, 38618, 41600, 44591, 47583, 50575, 53567, 56559, 59551, 65535,
+};
+
+static bool is_largest_frame(uint32_t number)
+{
+    for (size_t i = 0; i < sizeof largest_frames / sizeof largest_frames[0]; i++) {
+        if (largest_frames[i] == number) {
+            return true;
+        }
+    }
+    return false;
+}
+
+bool object_has_frames(const struct object *object)
+{
+    return strcmp(object->name, "dot1dSrPortLargestFrame") == 0;
+}
+
+static uint32_t type_of(uint32_t device)
+{
+    return device == RB_DEVICE_SOURCE_ROUTING ? TYPE_SOURCE_ROUTING : TYPE_TRANSPARENT;
+}
+
+bool object_takes(const struct object *object, uint32_t edition, uint32_t device, uint32_t number)
+{
+    if (number < object->low || number > object->high) {
+        return false;
+    }
+    if (edition == RB_EDITION_NEW && number % object_step(object) != 0) {
+        return false;
+    }
+    if (strcmp(object->name, "dot1dBaseType") == 0) {
+        return number == type_of(device);
+    }
+    return !object_has_frames(object) || is_largest_frame(number);
 }
 
 size_t object_instance(const struct object *object, const uint32_t *index, size_t count, uint32_t *sub)

@@ -30,7 +30,7 @@ static const char usage[] =
     "  --check     read every file and tell every error; play nothing\n"
     "  --fill      print the one FILE with the answers that it does not expect yet\n"
     "  --manifest  print the manifest of a submission of these files\n"
-    "  --objects   print the objects: name, object identifier, type, access, range, index\n"
+    "  --objects   print the objects: name, object identifier, devices that have it, type, access, range, index\n"
     "  --version   print the archive's SHA-256, the kit that proved it, and the requests built in\n"
     "status: 0 same, 1 differs, 2 unreadable (nothing played), 3 nothing compared, 4 stopped or output lost\n";
 

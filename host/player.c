@@ -25,9 +25,7 @@ static void play_block_call(struct turn *turn)
 {
     struct bridge *bridge = &turn->player->bridge;
     const struct command *command = &turn->command;
-    struct reply reply = command->kind == COMMAND_RESET
-                             ? bridge_reset(bridge)
-                             : bridge_setup(bridge, command->number, command->edition, &command->octets);
+    struct reply reply = command->kind == COMMAND_RESET ? bridge_reset(bridge) : bridge_setup(bridge, command);
     struct outcome outcome = refused(reply.number);
 
     if (reply.number == RB_ANSWERED) {

@@ -46,7 +46,7 @@ enum rb_number {
     RB_LENGTH_WRONG = 6,      /* a field has a wrong length, or octets are left after a binding's two fields */
     RB_HEAD_WRONG = 7,        /* the kind is not 0, 1 or 3, or status or index is not 0 */
     RB_TOO_MANY_BINDINGS = 8, /* there is a 17th binding */
-    RB_SETUP_REFUSED = 9,     /* set-up: block not 32,768 octets, ports not 1 to 64, an unknown edition, or address not 6 octets */
+    RB_SETUP_REFUSED = 9,     /* set-up: block not 32,768 octets, ports not 1 to 64, an unknown edition or device, or address not 6 octets */
     RB_TIMER_RANGE = 10,      /* a timer conversion is out of range */
     RB_EVENT_UNKNOWN = 11,    /* an unknown event, or an id that is not listed */
     RB_START_REFUSED = 12,    /* start of a case already started, or while one runs */
@@ -78,7 +78,7 @@ enum rb_status {
     RB_WRONG_VALUE = 10,
     RB_NO_CREATION = 11,          /* no index that this bridge can have */
     RB_INCONSISTENT_VALUE = 12,
-    RB_RESOURCE_UNAVAILABLE = 13, /* over 256 rows in a table */
+    RB_RESOURCE_UNAVAILABLE = 13, /* more rows than a table has room for: 256, and 64 port pairs */
     RB_NOT_WRITABLE = 17,
     RB_INCONSISTENT_NAME = 18     /* a column of a row that is absent and that the request does not make */
 };
@@ -145,16 +145,24 @@ enum rb_edition {
     RB_EDITION_NEW = 2
 };
 
-/* Writes a fresh bridge with `ports` ports (1 to 64) and one of rb_edition into the whole block; the address has 6 octets. The block keeps its edition:
- * no other call changes it. Returns 0 or 9; the count is 0. */
-rb_result rb_setup(uint8_t *block, size_t block_len, uint32_t ports, uint32_t edition, const uint8_t *address, size_t address_len);
+/* The devices that a bridge may be. A source-routing one has the objects under 17.1, with Type 3, the largest frame of each port (17.3.1.1.6: one of 64
+ * numbers, 1470 at first), the table of port pairs (17.3.5.1: at most 64, none at first), and no others. A transparent one has all others and those under
+ * 17.1, with Type 2. */
+enum rb_device {
+    RB_DEVICE_TRANSPARENT = 1,
+    RB_DEVICE_SOURCE_ROUTING = 2
+};
+
+/* Writes a fresh bridge with `ports` ports (1 to 64), one of rb_edition and one of rb_device into the whole block; the address has 6 octets. The block keeps
+ * its edition and its device: no other call changes them. Returns 0 or 9; the count is 0. */
+rb_result rb_setup(uint8_t *block, size_t block_len, uint32_t ports, uint32_t edition, uint32_t device, const uint8_t *address, size_t address_len);
 
 /* Answers one request: the answer stands at the start of the room and has `count` octets; the room's other octets keep theirs. A set without a fault
  * changes the block. Returns 0 to 8; a request that is answered with a fault returns 0 too, and the fault stands in the answer. */
 rb_result rb_answer(uint8_t *block, size_t block_len, const uint8_t *request, size_t request_len, uint8_t *room, size_t room_len);
 
-/* Resets a bridge: static rows of status 4 (deleteOnReset) go, the others close up in order, and all else stays. A second reset changes nothing.
- * Returns 0 or 3; the count is 0. */
+/* Resets a bridge: static rows of status 4 (deleteOnReset) go, the others close up in order, and all else stays. A second reset changes nothing, and none
+ * changes a source-routing bridge. Returns 0 or 3; the count is 0. */
 rb_result rb_reset(uint8_t *block, size_t block_len);
 
 /* Converts a timer from hundredths of a second (0 to 25599) to 256ths, rounded down, or back (0 to 65535), rounded up; the count is the converted value.
@@ -180,8 +188,8 @@ rb_console rb_console_take(uint8_t *state, size_t state_len, const uint8_t *chun
 /* Makes a state fresh, whatever it held. Returns 0, or 21 where it has not 1,477 octets; the count is 0. */
 rb_result rb_console_reset(uint8_t *state, size_t state_len);
 
-/* A growing table. */
-enum rb_table { RB_TABLE_VLAN = 1, RB_TABLE_STATIC = 2 };
+/* A growing table: VLANs and static rows, which a transparent bridge has, and port pairs, which a source-routing one has. */
+enum rb_table { RB_TABLE_VLAN = 1, RB_TABLE_STATIC = 2, RB_TABLE_PORT_PAIRS = 3 };
 
 /* What a check of a batch returns. Accepted: all 0. */
 typedef struct {
@@ -194,9 +202,9 @@ typedef struct {
 } rb_batch;
 
 /* Checks whether set messages may be played on the block in any order: each can be read, no two name a common row or scalar (the three bridge timers count as
- * one), and in each growing table the live rows and all absent rows that are named are at most 256. The batch is up to 64 messages, each in a frame as the
- * serial console has it; it may be empty. Returns 0, 3, 4 to 8 (7 for a message that is no set), 21, 22 or 23, judged 3 first and then from left to right.
- * Nothing is written. An accepted batch is answered with the same octets in every order, and leaves the same block. */
+ * one), and in each growing table the live rows and all absent rows that are named are at most 256, or 64 port pairs. The batch is up to 64 messages, each in
+ * a frame as the serial console has it; it may be empty. Returns 0, 3, 4 to 8 (7 for a message that is no set), 21, 22 or 23, judged 3 first and then from
+ * left to right. Nothing is written. An accepted batch is answered with the same octets in every order, and leaves the same block. */
 rb_batch rb_check_batch(const uint8_t *block, size_t block_len, const uint8_t *batch, size_t batch_len);
 
 /* Whose walk it is. */

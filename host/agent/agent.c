@@ -1,7 +1,7 @@
 /* The reference bridge as an SNMPv2c agent, over UDP and over a serial line.
  *
- *   agent [--ports N] [--address MAC] [--edition E] [--listen HOST:PORT] [--serial FILE|-] [--community C]
- *         [--state FILE] [--log FILE]
+ *   agent [--ports N] [--address MAC] [--edition E] [--device D] [--listen HOST:PORT] [--serial FILE|-]
+ *         [--community C] [--state FILE] [--log FILE]
  *
  * docs/NIGHT.md tells what a client sees. Status: 0 ended by a signal or with the serial line, 2 an argument or the
  * state file cannot be used, 4 the state or the serial line cannot be written. */
@@ -19,13 +19,14 @@
 enum { STATUS_ENDED = 0, STATUS_UNUSABLE = 2, STATUS_NOT_KEPT = 4 };
 
 static const char usage[] =
-    "usage: agent [--ports N] [--address 00:11:22:33:44:55] [--edition 1|2] [--listen HOST:PORT]\n"
+    "usage: agent [--ports N] [--address 00:11:22:33:44:55] [--edition 1|2] [--device 1|2] [--listen HOST:PORT]\n"
     "             [--serial FILE|-] [--community C] [--state FILE] [--log FILE]\n"
-    "  a fresh bridge of 4 ports and edition 1 on 127.0.0.1:1161 for the community public, if nothing else is said;\n"
+    "  a fresh bridge of 4 ports, edition 1 and device 1 on 127.0.0.1:1161 for the community public, if nothing else is\n"
+    "  said; device 2 is a source-routing bridge;\n"
     "  with --serial, a socket only where --listen asks for one\n";
 
 struct arguments {
-    const char *ports, *address, *edition, *listen, *serial, *community, *state, *log;
+    const char *ports, *address, *edition, *device, *listen, *serial, *community, *state, *log;
 };
 
 static const char **argument(struct arguments *arguments, const char *option)
@@ -34,9 +35,9 @@ static const char **argument(struct arguments *arguments, const char *option)
         const char *option;
         const char **place;
     } all[] = {
-        {"--ports", &arguments->ports},     {"--address", &arguments->address}, {"--edition", &arguments->edition},
-        {"--listen", &arguments->listen},   {"--serial", &arguments->serial},   {"--community", &arguments->community},
-        {"--state", &arguments->state},     {"--log", &arguments->log},
+        {"--ports", &arguments->ports},   {"--address", &arguments->address}, {"--edition", &arguments->edition},
+        {"--device", &arguments->device}, {"--listen", &arguments->listen},   {"--serial", &arguments->serial},
+        {"--state", &arguments->state},   {"--log", &arguments->log},         {"--community", &arguments->community},
     };
 
     for (size_t i = 0; i < sizeof all / sizeof all[0]; i++) {
@@ -51,11 +52,11 @@ static const char **argument(struct arguments *arguments, const char *option)
 static bool read_bridge(const struct arguments *arguments, struct command *command, struct complaint *why)
 {
     char line[200];
-    int length = snprintf(line, sizeof line, "bridge %s %s edition %s", arguments->ports, arguments->address,
-                          arguments->edition);
+    int length = snprintf(line, sizeof line, "bridge %s %s edition %s device %s", arguments->ports, arguments->address,
+                          arguments->edition, arguments->device);
 
     if (length >= (int)sizeof line) {
-        return complain(why, "the ports, the address or the edition are too long");
+        return complain(why, "the ports, the address, the edition or the device are too long");
     }
     return command_read((struct text){line, line + length}, 0, command, why);
 }
@@ -111,7 +112,7 @@ int main(int argc, char **argv)
 {
     static struct agent agent = {.socket = -1, .serial_in = -1, .serial_out = -1};
     struct arguments arguments = {
-        .ports = "4", .address = "00:11:22:33:44:55", .edition = "1", .community = "public"};
+        .ports = "4", .address = "00:11:22:33:44:55", .edition = "1", .device = "1", .community = "public"};
     struct complaint why;
 
     if (argc == 2 && strcmp(argv[1], "--help") == 0) {

@@ -42,10 +42,11 @@ bool state_start(struct state *state, const char *file, const struct command *br
     if (file != NULL && errno != ENOENT) {
         return complain(why, "%s cannot be opened: %s", file, strerror(errno));
     }
-    if (rb_setup(state->block, RB_BLOCK_SIZE, bridge->number, bridge->edition, address->at, address->count).number !=
-        RB_ANSWERED) {
-        return complain(why, "a bridge has 1 to %u ports, an address of %u octets, and edition %d or %d", RB_PORTS_MAX,
-                        RB_ADDRESS_SIZE, RB_EDITION_OLD, RB_EDITION_NEW);
+    if (rb_setup(state->block, RB_BLOCK_SIZE, bridge->number, bridge->edition, bridge->device, address->at,
+                 address->count).number != RB_ANSWERED) {
+        return complain(why, "a bridge has 1 to %u ports, an address of %u octets, edition %d or %d, and device %d or %d",
+                        RB_PORTS_MAX, RB_ADDRESS_SIZE, RB_EDITION_OLD, RB_EDITION_NEW, RB_DEVICE_TRANSPARENT,
+                        RB_DEVICE_SOURCE_ROUTING);
     }
     return state_keep(state, why);
 }

@@ -6,7 +6,7 @@
 enum { PLAYS = 2500, BLOCK_SPACE = 40960, BATCH_SPACE = 655360, NUMBERS = 24 };
 
 static struct guarded block, batch;
-static unsigned calls, accepted, pairs, short_of_room, numbers[NUMBERS];
+static unsigned calls, accepted, pairs, short_of_room, short_of_pairs, numbers[NUMBERS];
 
 /* A batch while it is made. */
 static uint8_t octets[BATCH_SPACE];
@@ -66,11 +66,12 @@ static void judge(rb_batch is)
             "number %u with message %u, offset %u", is.number, is.message, is.offset);
     REQUIRE(is.number == 0 || (!pair && is.table == 0), "refusal %u with a pair or a table", is.number);
     REQUIRE(!pair || (is.first >= 1 && is.first < is.second && is.second <= RB_BATCH_MAX && is.table == 0), "pair %u, %u", is.first, is.second);
-    REQUIRE(is.table <= RB_TABLE_STATIC, "table %u", is.table);
+    REQUIRE(is.table <= RB_TABLE_PORT_PAIRS, "table %u", is.table);
     numbers[is.number]++;
     accepted += is.number == 0 && !pair && is.table == 0;
     pairs += pair;
     short_of_room += is.table != 0;
+    short_of_pairs += is.table == RB_TABLE_PORT_PAIRS;
 }
 
 static void check(const uint8_t *b, size_t b_len)
@@ -84,27 +85,32 @@ static void check(const uint8_t *b, size_t b_len)
     }
 }
 
-/* So many VLANs, from 1001 on. */
-static void fill(uint8_t own[RB_BLOCK_SIZE], uint32_t rows)
+/* So many rows: VLANs from 1001 on, or pairs of port 1 and others from port 8 on, which the random messages do not name. */
+static void fill(uint8_t own[RB_BLOCK_SIZE], uint32_t rows, uint32_t device)
 {
     uint8_t room[RB_MESSAGE_MAX];
     struct octets request;
 
     for (uint32_t i = 0; i < rows; i++) {
         request_start(&request, RB_SET, i);
-        put_number(&request, "dot1qVlanStaticRowStatus", INDEX(1001 + i), 4);
+        if (device == RB_DEVICE_TRANSPARENT) {
+            put_number(&request, "dot1qVlanStaticRowStatus", INDEX(1001 + i), 4);
+        } else {
+            put_number(&request, "dot1dPortPairBridgeState", INDEX(1 + i / 56, 8 + i % 56), 1);
+            put_number(&request, "dot1dPortPairBridgeNum", INDEX(1 + i / 56, 8 + i % 56), 5);
+        }
         rb_result got = rb_answer(own, RB_BLOCK_SIZE, request.at, request.count, room, sizeof room);
         REQUIRE(got.number == RB_ANSWERED && room[STATUS_AT] == RB_NO_ERROR, "a row cannot be made");
     }
 }
 
-static void play_bridge(uint32_t ports, uint32_t rows)
+static void play_bridge(uint32_t ports, uint32_t rows, uint32_t device)
 {
     static uint8_t own[RB_BLOCK_SIZE], hurt[RB_BLOCK_SIZE];
     static const uint8_t address[RB_ADDRESS_SIZE] = {2, 0, 0, 0, 0, 1};
 
-    REQUIRE(rb_setup(own, sizeof own, ports, RB_EDITION_OLD, address, sizeof address).number == RB_ANSWERED, "set-up");
-    fill(own, rows);
+    REQUIRE(rb_setup(own, sizeof own, ports, RB_EDITION_OLD, device, address, sizeof address).number == RB_ANSWERED, "set-up");
+    fill(own, rows, device);
     for (unsigned i = 0; i < PLAYS; i++) {
         make_batch();
         if (chance(3) == 0) {
@@ -124,11 +130,13 @@ int main(int argc, char **argv)
     chance_seed(argc == 2 ? strtoull(argv[1], NULL, 10) * 2 + 1 : 1);
     guarded_make(&block, BLOCK_SPACE);
     guarded_make(&batch, BATCH_SPACE);
-    play_bridge(1, 0);
-    play_bridge(9, 253);
-    play_bridge(64, 255);
+    play_bridge(1, 0, RB_DEVICE_TRANSPARENT);
+    play_bridge(9, 253, RB_DEVICE_TRANSPARENT);
+    play_bridge(64, 255, RB_DEVICE_TRANSPARENT);
+    play_bridge(4, 0, RB_DEVICE_SOURCE_ROUTING);
+    play_bridge(64, 62, RB_DEVICE_SOURCE_ROUTING);
     printf("batches between guard pages: %u calls, %u accepted, %u pairs, %u short of room; refused", calls, accepted, pairs, short_of_room);
-    REQUIRE(accepted > 0 && pairs > 0 && short_of_room > 0, "a result never came");
+    REQUIRE(accepted > 0 && pairs > 0 && short_of_room > short_of_pairs && short_of_pairs > 0, "a result never came");
     for (unsigned n = 1; n < NUMBERS; n++) {
         REQUIRE(numbers[n] > 0 || n < RB_BLOCK_NOT_LEGAL || (n > RB_TOO_MANY_BINDINGS && n < RB_CONSOLE_WRONG), "number %u never came", n);
         if (numbers[n] > 0) {

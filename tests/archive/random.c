@@ -20,7 +20,8 @@ uint32_t chance(uint32_t below)
 static struct name random_name(void)
 {
     static const char *const objects[] = {"dot1dStpPriority", "dot1dStpPortPriority", "dot1dStaticStatus", "dot1dRegenUserPriority", "dot1qVlanStaticRowStatus",
-        "dot1qVlanStaticName", "dot1qVlanStaticEgressPorts", "dot1qPvid", "dot1dBasePort", "dot1dBridge"};
+        "dot1qVlanStaticName", "dot1qVlanStaticEgressPorts", "dot1qPvid", "dot1dBasePort", "dot1dBridge", "dot1dSrPortLargestFrame",
+        "dot1dPortPairBridgeNum", "dot1dPortPairBridgeState", "dot1dPortPairBridgeState", "dot1dPortPairLowPort"};
     const char *object = objects[chance(sizeof objects / sizeof objects[0])];
     size_t count = object_index_subs(object_called(object)) + (chance(12) == 0);
     uint32_t index[INDEX_SUBS_MAX + 1];
@@ -36,6 +37,8 @@ static void random_binding(struct octets *r, enum rb_kind kind)
     for (size_t i = 0; i < STRING_MAX; i++)
         value.octets[i] = (uint8_t)(chance(3) == 0 ? chance(256) : 0);
     value.octets[3] = (uint8_t)chance(8);
+    if (chance(12) == 0)
+        memcpy(value.octets, (const uint8_t[]){0, 0, 0x05, 0xBE}, 4); /* 1470, a largest frame */
     if (chance(3) != 0) {
         value.tag = chance(4) == 0 ? RB_TAG_UNSIGNED : RB_TAG_INTEGER;
         value.count = 4;

@@ -1,8 +1,8 @@
-/* Complete get-next walks, on fresh bridges and on bridges with 256 VLAN rows and 256 static rows: every instance once,
- * ascending, and an end. */
+/* Complete get-next walks, on fresh bridges and on bridges with 256 VLAN rows and 256 static rows or with all port pairs that
+ * there can be: every instance once, ascending, and an end. */
 #include "requests.h"
 
-enum { ROWS = 256, VLANS_IN_A_SET = 16, STATICS_IN_A_SET = 8 };
+enum { ROWS = 256, PAIRS = 64, VLANS_IN_A_SET = 16, STATICS_IN_A_SET = 8 };
 
 static uint8_t block[RB_BLOCK_SIZE], room[RB_MESSAGE_MAX];
 static const uint8_t address[RB_ADDRESS_SIZE] = {0, 1, 2, 3, 4, 5};
@@ -52,6 +52,23 @@ static void fill_statics(uint32_t ports)
     }
 }
 
+/* Pairs from those of the last ports on, so that each is put before the others; returns how many they are. */
+static unsigned fill_pairs(uint32_t ports)
+{
+    struct octets request;
+    unsigned pairs = 0;
+
+    for (uint32_t low = ports - 1; low >= 1; low--) {
+        for (uint32_t high = ports; high > low && pairs < PAIRS; high--, pairs++) {
+            request_start(&request, RB_SET, pairs);
+            put_number(&request, "dot1dPortPairBridgeNum", INDEX(low, high), pairs % 16);
+            put_number(&request, "dot1dPortPairBridgeState", INDEX(low, high), 1 + pairs % 2);
+            accept(&request);
+        }
+    }
+    return pairs;
+}
+
 static struct binding ask(uint8_t kind, uint32_t id, const struct name *name)
 {
     struct octets request;
@@ -91,6 +108,25 @@ static unsigned walk(void)
     }
 }
 
+static void set_up(uint32_t ports, uint32_t device)
+{
+    rb_result got = rb_setup(block, sizeof block, ports, RB_EDITION_OLD, device, address, sizeof address);
+
+    REQUIRE(got.number == RB_ANSWERED, "set-up of %u", ports);
+}
+
+static void walk_routing(uint32_t n)
+{
+    /* 3 scalars; 3 columns of ports; 4 columns of pairs */
+    unsigned fresh = 3 + 3 * n, pairs;
+
+    set_up(n, RB_DEVICE_SOURCE_ROUTING);
+    REQUIRE(walk() == fresh, "source routing, %u ports: not %u instances", n, fresh);
+    pairs = fill_pairs(n);
+    REQUIRE(walk() == fresh + 4 * pairs, "source routing, %u ports, %u pairs: not %u instances", n, pairs, fresh + 4 * pairs);
+    printf("walks: source routing, %u ports: %u instances fresh, %u with %u pairs\n", n, fresh, fresh + 4 * pairs, pairs);
+}
+
 int main(void)
 {
     static const uint32_t sizes[] = {1, 4, 64};
@@ -100,13 +136,14 @@ int main(void)
         /* 13 scalars; 11 columns of ports, two of ports and priorities; 5 columns of VLAN rows, 4 of static rows */
         unsigned fixed = 13 + 27 * n, fresh = fixed + 5, full = fixed + 5 * ROWS + 4 * ROWS;
 
-        REQUIRE(rb_setup(block, sizeof block, n, RB_EDITION_OLD, address, sizeof address).number == RB_ANSWERED, "set-up of %u", n);
+        set_up(n, RB_DEVICE_TRANSPARENT);
         REQUIRE(walk() == fresh, "%u ports: not %u instances", n, fresh);
         fill_vlans();
         fill_statics(n);
         REQUIRE(walk() == full, "%u ports, full tables: not %u instances", n, full);
         printf("walks: %u ports: %u instances fresh, %u with full tables, each once, ascending, read again by get\n", n,
                fresh, full);
+        walk_routing(n);
     }
     return 0;
 }

@@ -84,7 +84,7 @@ int main(int argc, char **argv)
     need(argc == 3, "usage: server PORTS LOG");
     log_file = fopen(argv[2], "w");
     need(log_file != NULL, "no log");
-    need(rb_setup(block, sizeof block, (uint32_t)atoi(argv[1]), RB_EDITION_OLD, address, sizeof address).number == 0, "no bridge");
+    need(rb_setup(block, sizeof block, (uint32_t)atoi(argv[1]), RB_EDITION_OLD, RB_DEVICE_TRANSPARENT, address, sizeof address).number == 0, "no bridge");
     own.sin_addr.s_addr = htonl(INADDR_LOOPBACK);
     need(udp >= 0 && bind(udp, (struct sockaddr *)&own, sizeof own) == 0, "no socket");
     need(getsockname(udp, (struct sockaddr *)&own, &size) == 0, "no port");

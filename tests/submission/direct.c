@@ -144,7 +144,7 @@ static void play_thousand(uint32_t variant)
         uint32_t ports = port_counts[b];
 
         played++;
-        REQUIRE(rb_setup(block, sizeof block, ports, RB_EDITION_OLD, address, sizeof address).number == RB_ANSWERED, "set-up");
+        REQUIRE(rb_setup(block, sizeof block, ports, RB_EDITION_OLD, RB_DEVICE_TRANSPARENT, address, sizeof address).number == RB_ANSWERED, "set-up");
         walked = name_of("dot1dBridge", NULL, 0);
         for (uint32_t i = 1; i < COMMANDS; i++) {
             play_case(ports, i, variant);

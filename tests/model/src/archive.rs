@@ -44,7 +44,7 @@ macro_rules! calls {
 }
 
 calls! {
-    fn rb_setup(block: *mut u8, block_len: usize, ports: u32, edition: u32, address: *const u8, address_len: usize) -> Result;
+    fn rb_setup(block: *mut u8, block_len: usize, ports: u32, edition: u32, device: u32, address: *const u8, address_len: usize) -> Result;
     fn rb_answer(block: *mut u8, block_len: usize, request: *const u8, request_len: usize, room: *mut u8, room_len: usize) -> Result;
     fn rb_reset(block: *mut u8, block_len: usize) -> Result;
     fn rb_to_256ths(hundredths: u32) -> Result;
@@ -71,8 +71,10 @@ fn read(result: Datagram) -> Given {
 
 // Each slice is valid for its length, and they do not overlap: that is all the header asks.
 
-pub fn set_up(block: &mut [u8], ports: u32, edition: u32, address: &[u8]) -> Returned {
-    returned(unsafe { rb_setup(block.as_mut_ptr(), block.len(), ports, edition, address.as_ptr(), address.len()) })
+pub fn set_up(block: &mut [u8], ports: u32, edition: u32, device: u32, address: &[u8]) -> Returned {
+    returned(unsafe {
+        rb_setup(block.as_mut_ptr(), block.len(), ports, edition, device, address.as_ptr(), address.len())
+    })
 }
 
 pub fn answer(block: &mut [u8], request: &[u8], room: &mut [u8]) -> Returned {

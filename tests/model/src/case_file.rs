@@ -12,18 +12,19 @@ pub fn hex(octets: &[u8]) -> String {
     octets.iter().map(|octet| format!("{octet:02X}")).collect()
 }
 
-/// The command that sets up a bridge; edition 1 is left out, as it is meant where none stands.
-pub fn bridge_line(ports: u32, edition: u32, address: &[u8]) -> String {
+/// The command that sets up a bridge; edition 1 and device 1 are left out, as they are meant where none stands.
+pub fn bridge_line(ports: u32, edition: u32, device: u32, address: &[u8]) -> String {
     let octets: Vec<String> = address.iter().map(|octet| format!("{octet:02X}")).collect();
-    let edition = if edition == 1 { String::new() } else { format!(" edition {edition}") };
-    format!("bridge {ports} {}{edition}", octets.join(":"))
+    let option = |word, number| if number == 1 { String::new() } else { format!(" {word} {number}") };
+    format!("bridge {ports} {}{}{}", octets.join(":"), option("edition", edition), option("device", device))
 }
 
 /// The lines of a case file: what is played, and after each call what the model says.
 pub fn case_file(history: &History, failure: &Failure) -> String {
     let start = &history.start;
-    let mut lines = vec![format!("# {}", failure.difference), bridge_line(start.ports, start.edition, &start.address)];
-    let fresh = Bridge::fresh(start.ports, start.edition, &start.address).expect("a bridge to start from").image();
+    let set_up = bridge_line(start.ports, start.edition, start.device, &start.address);
+    let mut lines = vec![format!("# {}", failure.difference), set_up];
+    let fresh = start.made_fresh().image();
     let mut block = start.image();
     for (offset, octets) in changed_runs(&fresh, &block) {
         write_poke(&mut lines, offset, &octets);

@@ -7,27 +7,32 @@ use crate::player::{same_octets, same_return, Difference};
 use crate::random::Random;
 use crate::tally::Tally;
 
-/// Every number of ports, in both editions, and other editions, with block and address of the right length and of wrong ones; blocks are poisoned.
+/// Every number of ports, in both editions and devices, and other editions and devices, with block and address of the right
+/// length and of wrong ones; blocks are poisoned.
 pub fn compare_set_up(library: Library, random: &mut Random, tally: &mut Tally) -> Result<(), Difference> {
     let ports = (0..=70).chain([127, 128, 255, 256, 257, 260, 320, 65536, 65540, 0x8000_0004, u32::MAX]);
     for ports in ports {
         for (block_len, address_len) in
             [(BLOCK, 6), (BLOCK - 1, 6), (BLOCK + 1, 6), (0, 6), (BLOCK, 5), (BLOCK, 7), (BLOCK, 0)]
         {
-            set_up(library, random, tally, (block_len, ports, 1, address_len))?;
-            set_up(library, random, tally, (block_len, ports, 2, address_len))?;
+            for (edition, device) in [(1, 1), (1, 2), (2, 1), (2, 2)] {
+                set_up(library, random, tally, (block_len, ports, edition, device, address_len))?;
+            }
         }
     }
-    for edition in (0..=20).chain([255, 256, 257, 258, 65537, 0x0100_0001, 0x8000_0001, u32::MAX]) {
-        set_up(library, random, tally, (BLOCK, 4, edition, 6))?;
+    for number in (0..=20).chain([255, 256, 257, 258, 65537, 0x0100_0001, 0x8000_0001, u32::MAX]) {
+        for known in [1, 2] {
+            set_up(library, random, tally, (BLOCK, 4, number, known, 6))?;
+            set_up(library, random, tally, (BLOCK, 4, known, number, 6))?;
+        }
     }
     for _ in 0..100 {
         let (block_len, address_len) = (random.below(2 * BLOCK), random.below(300));
-        let (ports, edition) = (random.within(0, 65), random.within(0, 3));
-        set_up(library, random, tally, (BLOCK, ports, edition, 6))?;
-        set_up(library, random, tally, (block_len, ports, edition, 6))?;
-        set_up(library, random, tally, (BLOCK, ports, edition, address_len))?;
-        set_up(library, random, tally, (block_len, ports, edition, address_len))?;
+        let (ports, edition, device) = (random.within(0, 65), random.within(0, 3), random.within(0, 3));
+        set_up(library, random, tally, (BLOCK, ports, edition, device, 6))?;
+        set_up(library, random, tally, (block_len, ports, edition, device, 6))?;
+        set_up(library, random, tally, (BLOCK, ports, edition, device, address_len))?;
+        set_up(library, random, tally, (block_len, ports, edition, device, address_len))?;
     }
     Ok(())
 }
@@ -36,16 +41,17 @@ fn set_up(
     library: Library,
     random: &mut Random,
     tally: &mut Tally,
-    (block_len, ports, edition, address_len): (usize, u32, u32, usize),
+    (block_len, ports, edition, device, address_len): (usize, u32, u32, u32, usize),
 ) -> Result<(), Difference> {
     let address = random.octets(address_len).into_boxed_slice();
     let mut expected = random.poison(block_len);
     let mut block = expected.clone().into_boxed_slice();
-    let said = calls::set_up(&mut expected, ports, edition, &address);
-    let returned = (library.set_up)(&mut block, ports, edition, &address);
-    note(tally, said, "set-up accepted, by edition", edition);
-    let what =
-        format!("set-up of {block_len} octets, {ports} ports, edition {edition}, address of {address_len} octets");
+    let said = calls::set_up(&mut expected, ports, edition, device, &address);
+    let returned = (library.set_up)(&mut block, ports, edition, device, &address);
+    note(tally, said, "set-up accepted, by ten times the device and the edition", 10 * device.min(9) + edition.min(9));
+    let what = format!(
+        "set-up of {block_len} octets, {ports} ports, edition {edition}, device {device}, address of {address_len} octets"
+    );
     same_return(&what, returned, said)?;
     same_octets(&what, &block, &expected)
 }

@@ -6,7 +6,7 @@ pub use crate::model::calls::Returned;
 
 #[derive(Clone, Copy)]
 pub struct Library {
-    pub set_up: fn(&mut [u8], u32, u32, &[u8]) -> Returned,
+    pub set_up: fn(&mut [u8], u32, u32, u32, &[u8]) -> Returned,
     pub answer: fn(&mut [u8], &[u8], &mut [u8]) -> Returned,
     pub reset: fn(&mut [u8]) -> Returned,
     pub to_256ths: fn(u32) -> Returned,

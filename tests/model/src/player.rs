@@ -59,8 +59,8 @@ impl<'a> Player<'a> {
     pub fn start(library: Library, start: &Bridge, tally: &'a mut Tally) -> Result<Player<'a>, Difference> {
         let mut poison = Random::new(u64::from(start.ports));
         let mut block = poison.poison(BLOCK).into_boxed_slice();
-        let returned = (library.set_up)(&mut block, start.ports, start.edition, &start.address);
-        let fresh = Bridge::fresh(start.ports, start.edition, &start.address).expect("a bridge to start from");
+        let returned = (library.set_up)(&mut block, start.ports, start.edition, start.device, &start.address);
+        let fresh = start.made_fresh();
         same_return("set-up", returned, (0, 0, 0))?;
         same_octets("block after set-up", &block, &fresh.image())?;
         let expected = start.image();
@@ -109,6 +109,9 @@ impl<'a> Player<'a> {
         // A history that is being made shorter may hold a pair that is refused, which has no octets.
         let accepted = [&first_before, &second_before].iter().filter(|answer| answer.get(14) == Some(&0)).count();
         bench.tally.note("pair, by accepted messages", accepted as u32);
+        if let Some(bridge) = &other.bridge {
+            bench.tally.note("pair, by device", bridge.device);
+        }
         Ok(())
     }
 }

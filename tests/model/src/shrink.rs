@@ -4,6 +4,7 @@ use crate::library::Library;
 use crate::model::bridge::{Bridge, VlanRow};
 use crate::model::image::BLOCK;
 use crate::model::message::{read, write_request, LONGEST};
+use crate::model::names::GROWING;
 use crate::player::play;
 use crate::step::{History, Step};
 use std::time::{Duration, Instant};
@@ -52,7 +53,8 @@ impl Shrinker {
             Step::Reset { block_len } => usize::from(*block_len != BLOCK),
             Step::Pair { first, second, .. } => first.len() + second.len() + 1,
         };
-        self.best.start.vlans.len() + self.best.start.statics.len() + self.best.steps.iter().map(of_step).sum::<usize>()
+        let rows: usize = GROWING.iter().map(|table| self.best.start.rows(*table)).sum();
+        rows + self.best.steps.iter().map(of_step).sum::<usize>()
     }
 
     /// Leaves out runs of steps, long ones first.
@@ -75,13 +77,14 @@ impl Shrinker {
     /// A fresh bridge, or one with fewer rows, to start from.
     fn simpler_start(&mut self) {
         let start = self.best.start.clone();
-        let fresh = Bridge::fresh(start.ports, start.edition, &start.address).expect("a bridge to start from");
+        let fresh = start.made_fresh();
         self.with_start(fresh.clone());
         self.with_start(Bridge { settings: fresh.settings.clone(), ..self.best.start.clone() });
         self.with_start(Bridge { vlan_deletes: 0, ..self.best.start.clone() });
         self.with_start(Bridge { vlans: fresh.vlans, ..self.best.start.clone() });
         self.with_start(with_empty_rows(self.best.start.clone()));
         self.with_start(Bridge { statics: fresh.statics, ..self.best.start.clone() });
+        self.with_start(Bridge { pairs: fresh.pairs, ..self.best.start.clone() });
         for id in start.vlans.into_keys() {
             let mut fewer = self.best.start.clone();
             fewer.vlans.remove(&id);
@@ -90,6 +93,11 @@ impl Shrinker {
         for index in start.statics.into_keys() {
             let mut fewer = self.best.start.clone();
             fewer.statics.remove(&index);
+            self.with_start(fewer);
+        }
+        for index in start.pairs.into_keys() {
+            let mut fewer = self.best.start.clone();
+            fewer.pairs.remove(&index);
             self.with_start(fewer);
         }
     }

@@ -4,9 +4,9 @@
 use crate::generate::start;
 use crate::library::Library;
 use crate::model::bridge::Bridge;
-use crate::model::image::{BLOCK, CELLS, STATIC_ROW, STATIC_ROWS, VLAN_ROW, VLAN_ROWS};
+use crate::model::image::{BLOCK, CELLS, PAIR_ROW, PAIR_ROWS, STATIC_ROW, STATIC_ROWS, VLAN_ROW, VLAN_ROWS};
 use crate::model::message::{write_request, Binding, Content, Kind, Request};
-use crate::model::names::{type_of, Object, Syntax, EDITIONS};
+use crate::model::names::{type_of, Object, Syntax, DEVICES, EDITIONS, LARGEST_FRAMES, SOURCE_ROUTING, TRANSPARENT};
 use crate::player::{Failure, Player};
 use crate::random::Random;
 use crate::step::{History, Step};
@@ -14,15 +14,18 @@ use crate::tally::Tally;
 
 type Swept = Result<(), Box<(History, Failure)>>;
 
-/// A bridge with a few rows in both growing tables.
-fn small_bridge(random: &mut Random, ports: u32, edition: u32) -> Bridge {
-    let fresh = Bridge::fresh(ports, edition, &start::address(random)).expect("1 to 64 ports");
+/// A bridge with a few rows in its growing tables.
+fn small_bridge(random: &mut Random, ports: u32, edition: u32, device: u32) -> Bridge {
+    let fresh = Bridge::fresh(ports, edition, device, &start::address(random)).expect("1 to 64 ports");
     let mut bridge = start::filled(random, fresh);
     while bridge.vlans.len() > 4 {
         bridge.vlans.pop_first();
     }
     while bridge.statics.len() > 4 {
         bridge.statics.pop_last();
+    }
+    while bridge.pairs.len() > 4 {
+        bridge.pairs.pop_first();
     }
     bridge
 }
@@ -57,20 +60,24 @@ fn play_all(library: Library, start: &Bridge, runs: impl Iterator<Item = Vec<Ste
     Ok(())
 }
 
-/// Every octet of a block of each edition.
+/// Every octet of a block of each edition and of each device.
 pub fn every_block_octet(library: Library, random: &mut Random, tally: &mut Tally) -> Swept {
-    EDITIONS.into_iter().try_for_each(|edition| every_octet_of(library, edition, random, tally))
+    for (edition, device) in [(1, TRANSPARENT), (2, TRANSPARENT), (1, SOURCE_ROUTING)] {
+        every_octet_of(library, (edition, device), random, tally)?;
+    }
+    Ok(())
 }
 
 /// Every octet of a block, changed once; those that hold something, changed in more ways.
-fn every_octet_of(library: Library, edition: u32, random: &mut Random, tally: &mut Tally) -> Swept {
-    let start = small_bridge(random, 9, edition);
+fn every_octet_of(library: Library, (edition, device): (u32, u32), random: &mut Random, tally: &mut Tally) -> Swept {
+    let start = small_bridge(random, 9, edition, device);
     let block = start.image();
     let asked = message(Kind::Get, vec![bind(Object::NumPorts, &[0], Content::Null)]);
     let holds = |at: usize| {
-        at < 5940
+        at < VLAN_ROWS
             || (VLAN_ROWS..VLAN_ROWS + VLAN_ROW * (start.vlans.len() + 1)).contains(&at)
             || (STATIC_ROWS..STATIC_ROWS + STATIC_ROW * (start.statics.len() + 1)).contains(&at)
+            || (PAIR_ROWS..PAIR_ROWS + PAIR_ROW * (start.pairs.len() + 1)).contains(&at)
     };
     let changes = block.iter().enumerate().flat_map(|(offset, octet)| {
         let any = octet ^ (1 << random.below(8));
@@ -90,15 +97,18 @@ fn every_octet_of(library: Library, edition: u32, random: &mut Random, tally: &m
 /// belong together with room on both sides but for the least ForwardDelay, so that a rule hides no range.
 pub fn every_range(library: Library, random: &mut Random, tally: &mut Tally) -> Swept {
     let asked = message(Kind::Get, vec![bind(Object::NumPorts, &[0], Content::Null)]);
-    for (edition, at_high) in [(1, false), (1, true), (2, false), (2, true)] {
-        let mut start = Bridge::fresh(9, edition, &start::address(random)).expect("1 to 64 ports");
+    let ends = [false, true];
+    let kinds = DEVICES.into_iter().flat_map(|device| EDITIONS.into_iter().map(move |edition| (device, edition)));
+    for ((device, edition), at_high) in kinds.flat_map(|kind| ends.into_iter().map(move |end| (kind, end))) {
+        let mut start = Bridge::fresh(9, edition, device, &start::address(random)).expect("1 to 64 ports");
         for (object, numbers) in &mut start.settings {
             let (low, high) = range(*object, edition);
             numbers.fill(if at_high { high } else { low });
         }
         let pokes = CELLS.iter().flat_map(|(object, first)| {
             let (low, high) = range(*object, edition);
-            let last = first + 4 * (start.settings[object].len() - 1);
+            // Cells of the other device stand too, and must be 0.
+            let last = first + 4 * (start.settings.get(object).map_or(1, Vec::len) - 1);
             let numbers = if at_high { [high, high + 1] } else { [low, low.wrapping_sub(1)] };
             [(*first, numbers[0]), (*first, numbers[1]), (last, numbers[0]), (last, numbers[1])]
         });
@@ -117,8 +127,47 @@ fn range(object: Object, edition: u32) -> (u32, u32) {
         (2, Object::StpPriority, _) => (0, 61440),
         (2, Object::StpPortPriority, _) => (0, 240),
         (_, _, Syntax::Integer(low, high) | Syntax::Unsigned(low, high)) => (low, high),
+        (_, _, Syntax::Frame) => (LARGEST_FRAMES[0], LARGEST_FRAMES[63]),
         _ => unreachable!("{object:?} has no cells"),
     }
+}
+
+/// Every number about the largest frames: set on a port, and as the cell of one.
+pub fn every_frame(library: Library, random: &mut Random, tally: &mut Tally) -> Swept {
+    let start = small_bridge(random, 3, 1, SOURCE_ROUTING);
+    let (_, first) = CELLS.into_iter().find(|(object, _)| *object == Object::LargestFrame).expect("a cell");
+    let numbers = (0..=2100).chain(LARGEST_FRAMES.into_iter().flat_map(|frame| frame - 2..=frame + 2));
+    let runs = numbers.chain([65536, 65536 + 1470, 0x8000_05BE]).map(|frame| {
+        let set = message(Kind::Set, vec![bind(Object::LargestFrame, &[2], Content::Integer(frame as i32))]);
+        let get = message(Kind::Get, vec![bind(Object::LargestFrame, &[2], Content::Null)]);
+        let poke = Step::Poke { offset: first + 4, octets: frame.to_be_bytes().to_vec() };
+        vec![Step::call(set), Step::call(get.clone()), poke, Step::call(get)]
+    });
+    play_all(library, &start, runs, tally)
+}
+
+/// A state, a bridge number, and both, of every two sub-ids about the ports, on a bridge of few ports with some pairs.
+pub fn every_pair(library: Library, random: &mut Random, tally: &mut Tally) -> Swept {
+    for ports in [1, 2, 4] {
+        let start = small_bridge(random, ports, 2, SOURCE_ROUTING);
+        let indexes = (0..=ports + 1).flat_map(|low| (0..=ports + 1).map(move |high| [low, high]));
+        let runs = indexes.flat_map(|index| {
+            let number = bind(Object::PairBridgeNum, &index, Content::Integer(7));
+            let state = |number| bind(Object::PairBridgeState, &index, Content::Integer(number));
+            let groups = [0, 1, 2, 3, 4].map(|number| vec![state(number)]).into_iter();
+            let both = [1, 2, 3].map(|of| [vec![state(of), number.clone()], vec![number.clone(), state(of)]]).concat();
+            let all: Vec<Vec<Binding>> = groups.chain(both).chain([vec![number.clone()]]).collect();
+            let columns =
+                [Object::PairLowPort, Object::PairHighPort, Object::PairBridgeNum, Object::PairBridgeState];
+            let asked = columns.map(|column| bind(column, &index, Content::Null)).to_vec();
+            all.into_iter().map(move |group| {
+                let get = Step::call(message(Kind::Get, asked.clone()));
+                vec![Step::call(message(Kind::Set, group)), get, Step::call(message(Kind::GetNext, asked.clone()))]
+            })
+        });
+        play_all(library, &start, runs, tally)?;
+    }
+    Ok(())
 }
 
 /// Requests of each kind with contents of each type.
@@ -142,7 +191,7 @@ fn requests() -> Vec<Vec<u8>> {
 
 /// Some requests cut at every octet, with every octet changed in some ways, and with an octet put in at every place.
 pub fn every_request_octet(library: Library, random: &mut Random, tally: &mut Tally) -> Swept {
-    let start = small_bridge(random, 4, 1);
+    let start = small_bridge(random, 4, 1, TRANSPARENT);
     let mut runs = Vec::new();
     for request in requests() {
         for at in 0..request.len() {
@@ -168,9 +217,9 @@ pub fn every_request_octet(library: Library, random: &mut Random, tally: &mut Ta
 
 /// Get and get-next of every name that is an instance, begins one, or differs from one in a sub-id by one.
 pub fn every_name(library: Library, random: &mut Random, tally: &mut Tally) -> Swept {
-    // One port in edition 1, two in edition 2.
-    for ports in EDITIONS {
-        let start = small_bridge(random, ports, ports);
+    // One port in edition 1, two in edition 2; a source-routing bridge has some pairs.
+    for (ports, edition, device) in [(1, 1, TRANSPARENT), (2, 2, TRANSPARENT), (5, 1, SOURCE_ROUTING)] {
+        let start = small_bridge(random, ports, edition, device);
         let mut asked = Vec::new();
         let mut next = start.next_binding(&[0, 0]);
         while next.content != Content::EndOfMibView {

@@ -2,11 +2,16 @@
 
 use crate::generate::scripts::SCRIPTS;
 use crate::generate::start::PORTS;
-use crate::model::bridge::{Bridge, DELETE_ON_RESET, MOST_ROWS, TIMERS};
+use crate::model::bridge::{Bridge, DELETE_ON_RESET, TIMERS};
 use crate::model::image::BLOCK;
 use crate::model::message::{read, write_answer, Binding, Content, Kind, Refusal, Request, LONGEST};
-use crate::model::names::{split, takes, type_of, Object, Shape, TABLE};
-use crate::model::set::{INCONSISTENT_VALUE, WRONG_VALUE};
+use crate::model::names::{
+    can_have, split, split_of, takes, type_of, Object, ObjectType, Shape, DEVICES, LARGEST_FRAMES, MOST_ROWS,
+    SOURCE_ROUTING, TABLE,
+};
+use crate::model::set::{
+    INCONSISTENT_NAME, INCONSISTENT_VALUE, NOT_WRITABLE, NO_CREATION, RESOURCE_UNAVAILABLE, WRONG_VALUE,
+};
 use std::collections::BTreeMap;
 
 #[derive(Default)]
@@ -38,8 +43,9 @@ fn required() -> Vec<(&'static str, Vec<u32>)> {
         ("request of 1472 octets", vec![0]),
         ("VLAN rows", vec![0, 1, 254, 255, 256]),
         ("static rows", vec![0, 1, 254, 255, 256]),
-        ("row made where 256 stood, VLAN or static", vec![0, 1]),
-        ("column before the status that makes its row, VLAN or static", vec![0, 1]),
+        ("port pairs", vec![0, 1, 62, 63, 64]),
+        ("row made where the table was full, VLAN, static or pair", vec![0, 1, 2]),
+        ("column before the status that makes its row, VLAN, static or pair", vec![0, 1, 2]),
         ("Egress and Forbidden exchanged", vec![0]),
         ("VlanNumDeletes passed 2^32", vec![0]),
         ("set accepted, by timers bound", vec![1, 2, 3]),
@@ -56,8 +62,20 @@ fn required() -> Vec<(&'static str, Vec<u32>)> {
         ("changed block, not legal or legal", vec![0, 1]),
         ("start, fresh or filled", vec![0, 1]),
         ("script", (0..SCRIPTS.len() as u32).collect()),
-        ("set-up accepted, by edition", vec![1, 2]),
+        ("set-up accepted, by ten times the device and the edition", vec![11, 12, 21, 22]),
         ("edition", vec![1, 2]),
+        ("device", DEVICES.collect()),
+        ("reset, by device", DEVICES.collect()),
+        ("pair, by device", DEVICES.collect()),
+        ("largest frame written, by its place", (0..LARGEST_FRAMES.len() as u32).collect()),
+        ("largest frame refused, below the first, between two or above the last", vec![0, 1, 2]),
+        ("12 on a state that makes a pair: number not bound, or at fault", vec![0, 1]),
+        ("12 on a state that makes a pair where there is no room either", vec![0]),
+        ("13 on a state that makes a pair, for one that lacks its number", vec![0]),
+        ("11 on two ports: equal, exchanged, not of the bridge", vec![0, 1, 2]),
+        ("18 and 12 on a bridge number", vec![INCONSISTENT_NAME.into(), INCONSISTENT_VALUE.into()]),
+        ("17 for an object of the other device, by device", DEVICES.collect()),
+        ("noSuchObject for an object of the other device, by device", DEVICES.collect()),
         ("priority written in edition 1 beside the steps, bridge's or port's", vec![0, 1]),
         ("priority written in edition 2, bridge's or port's", vec![0, 1]),
         ("priority of the old range refused in edition 2, bridge's or port's", vec![0, 1]),
@@ -95,6 +113,10 @@ impl Tally {
         let Some(bridge) = before.filter(|_| block_len == BLOCK) else {
             return self.note("reset refused, by length or by contents", u32::from(block_len == BLOCK));
         };
+        self.note("reset, by device", bridge.device);
+        if bridge.device == SOURCE_ROUTING {
+            return;
+        }
         self.note("reset with active VLAN rows, none or some", u32::from(bridge.active_vlans() > 0));
         let rows = bridge.statics.len();
         let go = bridge.statics.values().filter(|row| row.status == DELETE_ON_RESET).count();
@@ -120,14 +142,19 @@ impl Tally {
     fn note_sizes(&mut self, request: &[u8], before: &Bridge, answer: &[u8]) {
         self.note("ports", before.ports);
         self.note("edition", before.edition);
-        for (title, rows) in [("VLAN rows", before.vlans.len()), ("static rows", before.statics.len())] {
-            if matches!(rows, 0 | 1 | 254..) {
-                self.note(title, rows as u32);
+        self.note("device", before.device);
+        if before.device == SOURCE_ROUTING {
+            self.note("port pairs", before.pairs.len() as u32);
+        } else {
+            for (title, rows) in [("VLAN rows", before.vlans.len()), ("static rows", before.statics.len())] {
+                if matches!(rows, 0 | 1 | 254..) {
+                    self.note(title, rows as u32);
+                }
             }
-        }
-        let active = before.active_vlans();
-        if matches!(active, 0 | 1 | 255..) {
-            self.note("active VLAN rows", active as u32);
+            let active = before.active_vlans();
+            if matches!(active, 0 | 1 | 255..) {
+                self.note("active VLAN rows", active as u32);
+            }
         }
         if answer.len() == LONGEST {
             self.note("answer of 1472 octets", 0);
@@ -154,6 +181,7 @@ impl Tally {
                         self.note("priority of the old range refused in edition 2, bridge's or port's", place as u32);
                     }
                 }
+                self.note_routing_fault(fault, usize::from(index) - 1, &request.bindings, before);
             }
             (kind, 1) => {
                 self.note("tooBig, get or get-next", u32::from(kind == Kind::GetNext));
@@ -163,8 +191,54 @@ impl Tally {
             }
             (kind, _) => {
                 self.note(if kind == Kind::Get { "get, by bindings" } else { "get-next, by bindings" }, bindings);
-                self.note_contents(answer);
+                self.note_contents(answer, before.device);
             }
+        }
+    }
+
+    /// Notes a fault that devices, largest frames or pairs lead to.
+    fn note_routing_fault(&mut self, fault: u8, at: usize, bindings: &[Binding], before: &Bridge) {
+        let Some((entry, index)) = split(&bindings[at].name) else { return };
+        if !entry.is_of(before.device) {
+            if fault == NOT_WRITABLE {
+                self.note("17 for an object of the other device, by device", before.device);
+            }
+            return;
+        }
+        match (entry.object, fault) {
+            (Object::LargestFrame, WRONG_VALUE) => {
+                let Content::Integer(number) = bindings[at].content else { return };
+                let part = u32::from(number > 516) + u32::from(number > 65535);
+                self.note("largest frame refused, below the first, between two or above the last", part);
+            }
+            (Object::PairBridgeNum, INCONSISTENT_NAME | INCONSISTENT_VALUE) => {
+                self.note("18 and 12 on a bridge number", fault.into());
+            }
+            (Object::PairBridgeState, INCONSISTENT_VALUE) => self.note_unnumbered(index, bindings, before),
+            (Object::PairBridgeState, RESOURCE_UNAVAILABLE) => {
+                // Without the states that lack a number there would be room.
+                let whole = |binding: &&Binding| !lacks_number(binding, bindings, before);
+                let others: Vec<Binding> = bindings.iter().filter(whole).cloned().collect();
+                if before.clone().set(&others).0 != RESOURCE_UNAVAILABLE {
+                    self.note("13 on a state that makes a pair, for one that lacks its number", 0);
+                }
+            }
+            (Object::PairBridgeNum | Object::PairBridgeState, NO_CREATION) => {
+                let [low, high] = index else { return };
+                let reason = if low == high { 0 } else { 2 - u32::from(can_have(Shape::Pair, before.ports, &[*high, *low])) };
+                self.note("11 on two ports: equal, exchanged, not of the bridge", reason);
+            }
+            _ => {}
+        }
+    }
+
+    /// Notes 12 on a state that makes a pair without a bridge number.
+    fn note_unnumbered(&mut self, index: &[u32], bindings: &[Binding], before: &Bridge) {
+        let bound = bindings.iter().any(|binding| binding.name == type_of(Object::PairBridgeNum).name(index));
+        self.note("12 on a state that makes a pair: number not bound, or at fault", u32::from(bound));
+        let room = before.room(type_of(Object::PairBridgeState).table().expect("a growing table"));
+        if before.pairs.len() == room && bindings.len() == 1 {
+            self.note("12 on a state that makes a pair where there is no room either", 0);
         }
     }
 
@@ -174,15 +248,21 @@ impl Tally {
         if after.vlan_deletes < before.vlan_deletes {
             self.note("VlanNumDeletes passed 2^32", 0);
         }
-        if timers_bound(bindings) > 0 {
-            self.note_timers(timers_bound(bindings), after.timers());
+        if let (Some(timers), true) = (after.timers(), timers_bound(bindings) > 0) {
+            self.note_timers(timers_bound(bindings), timers);
         }
-        let (was, is) = (before.active_vlans(), after.active_vlans());
-        let change = 1 + u32::from(is > was) - u32::from(is < was);
-        self.note("set that leaves fewer, as many or more active VLAN rows", change);
+        if before.device != SOURCE_ROUTING {
+            let (was, is) = (before.active_vlans(), after.active_vlans());
+            let change = 1 + u32::from(is > was) - u32::from(is < was);
+            self.note("set that leaves fewer, as many or more active VLAN rows", change);
+        }
         for (at, binding) in bindings.iter().enumerate() {
-            let Some((entry, index)) = split(&binding.name) else { continue };
+            let Some((entry, index)) = split_of(before.device, &binding.name) else { continue };
             self.note("object written", entry.object as u32);
+            if let (Object::LargestFrame, Content::Integer(number)) = (entry.object, &binding.content) {
+                let place = LARGEST_FRAMES.iter().position(|frame| *frame as i32 == *number);
+                self.note("largest frame written, by its place", place.expect("accepted") as u32);
+            }
             if let Some((place, number)) = priority(binding) {
                 match before.edition {
                     2 => self.note("priority written in edition 2, bridge's or port's", place as u32),
@@ -191,8 +271,8 @@ impl Tally {
                 }
             }
             let made = before.get(entry.object, index).is_none() && after.get(entry.object, index).is_some();
-            if made && matches!(entry.object, Object::VlanRowStatus | Object::StaticStatus) {
-                self.note_made(entry.shape, index, &bindings[..at], before);
+            if made && matches!(entry.object, Object::VlanRowStatus | Object::StaticStatus | Object::PairBridgeState) {
+                self.note_made(entry, index, &bindings[..at], before);
             }
             if entry.object == Object::VlanEgress && exchanged(before, after, index[0]) {
                 self.note("Egress and Forbidden exchanged", 0);
@@ -212,22 +292,20 @@ impl Tally {
     }
 
     /// Notes a made row where a simpler agent might not make it.
-    fn note_made(&mut self, shape: Shape, index: &[u32], earlier: &[Binding], before: &Bridge) {
-        let (rows, number) = match shape {
-            Shape::Vlan => (before.vlans.len(), 0),
-            _ => (before.statics.len(), 1),
-        };
-        if rows == MOST_ROWS {
-            self.note("row made where 256 stood, VLAN or static", number);
+    fn note_made(&mut self, status: &ObjectType, index: &[u32], earlier: &[Binding], before: &Bridge) {
+        let table = status.table().expect("a growing table");
+        if before.rows(table) == before.room(table) {
+            self.note("row made where the table was full, VLAN, static or pair", table as u32);
         }
-        let of_row =
-            |binding: &Binding| split(&binding.name).is_some_and(|(entry, at)| entry.shape == shape && at == index);
+        let of_row = |binding: &Binding| {
+            split(&binding.name).is_some_and(|(entry, at)| entry.shape == status.shape && at == index)
+        };
         if earlier.iter().any(of_row) {
-            self.note("column before the status that makes its row, VLAN or static", number);
+            self.note("column before the status that makes its row, VLAN, static or pair", table as u32);
         }
     }
 
-    fn note_contents(&mut self, answer: &[u8]) {
+    fn note_contents(&mut self, answer: &[u8], device: u32) {
         let length = |at: usize| usize::from(answer[at + 1]) * 256 + usize::from(answer[at + 2]);
         let mut at = 16;
         while at < answer.len() {
@@ -236,8 +314,12 @@ impl Tally {
             self.note("content, by tag", tag.into());
             let sub_ids = answer[at + 6..at + 6 + name_len].chunks_exact(4);
             let name: Vec<u32> = sub_ids.map(|octets| u32::from_be_bytes(octets.try_into().unwrap())).collect();
-            if let (Some((entry, _)), true) = (split(&name), tag < 0x30) {
-                self.note("object read", entry.object as u32);
+            match (split(&name), tag) {
+                (Some((entry, _)), ..0x30) => self.note("object read", entry.object as u32),
+                (Some((entry, _)), 0x30) if !entry.is_of(device) => {
+                    self.note("noSuchObject for an object of the other device, by device", device);
+                }
+                _ => {}
             }
             at += 3 + length(at);
         }
@@ -287,6 +369,15 @@ fn priority(binding: &Binding) -> Option<(usize, u32)> {
 fn timers_bound(bindings: &[Binding]) -> u32 {
     let named = TIMERS.map(|timer| bindings.iter().any(|binding| binding.name == type_of(timer).name(&[0])));
     named.into_iter().map(u32::from).sum()
+}
+
+/// A state that makes a pair whose bridge number no binding names.
+fn lacks_number(binding: &Binding, bindings: &[Binding], before: &Bridge) -> bool {
+    let Some((entry, index)) = split(&binding.name) else { return false };
+    let making = matches!(binding.content, Content::Integer(1 | 2));
+    let absent = before.get(entry.object, index).is_none();
+    let number = type_of(Object::PairBridgeNum).name(index);
+    entry.object == Object::PairBridgeState && making && absent && bindings.iter().all(|other| other.name != number)
 }
 
 /// A port went from Egress to Forbidden, and another one the other way.

@@ -53,17 +53,21 @@ impl Replay {
         (self.size, self.room) = (32768, 1472);
     }
 
-    fn set_up(&mut self, ports: &str, edition: &str, address: &str) {
+    fn set_up(&mut self, ports: &str, options: &[&str], address: &str) {
         let address = hex(&address.replace(':', ""));
-        self.block = Bridge::fresh(ports.parse().unwrap(), edition.parse().unwrap(), &address).unwrap().image();
+        let option = |word: &str| {
+            let place = options.iter().position(|other| *other == word);
+            place.map_or(1, |place| options[place + 1].parse().unwrap())
+        };
+        let fresh = Bridge::fresh(ports.parse().unwrap(), option("edition"), option("device"), &address);
+        self.block = fresh.unwrap().image();
     }
 
     fn line(&mut self, line: &str) {
         let words: Vec<&str> = line.split(' ').collect();
         match words[..] {
             ["#", ..] => {}
-            ["bridge", ports, address] => self.set_up(ports, "1", address),
-            ["bridge", ports, address, "edition", edition] => self.set_up(ports, edition, address),
+            ["bridge", ports, address, ref options @ ..] => self.set_up(ports, options, address),
             ["poke", offset, octets] => {
                 let (offset, octets): (usize, Vec<u8>) = (offset.parse().unwrap(), hex(octets));
                 self.block[offset..offset + octets.len()].copy_from_slice(&octets);
@@ -82,8 +86,7 @@ impl Replay {
 fn case_files_are_replayed() {
     for seed in 0..40 {
         let mut random = Random::new(seed);
-        let (ports, edition) = (start::ports(&mut random), start::edition(&mut random));
-        let fresh = Bridge::fresh(ports, edition, &start::address(&mut random)).unwrap();
+        let fresh = start::fresh(&mut random);
         let start = if seed % 2 == 0 { fresh } else { start::filled(&mut random, fresh) };
         let mut history = History { start, steps: Vec::new() };
         let mut tally = Tally::default();

@@ -149,18 +149,18 @@ fn octets_past_the_count_are_kept() {
 #[test]
 fn set_up() {
     let mut block = vec![0x5A; 32768];
-    assert_eq!(calls::set_up(&mut block, 0, 1, &ADDRESS), (9, 0, 0));
-    assert_eq!(calls::set_up(&mut block, 65, 1, &ADDRESS), (9, 0, 0));
-    assert_eq!(calls::set_up(&mut block, 4, 1, &ADDRESS[..5]), (9, 0, 0));
-    assert_eq!(calls::set_up(&mut block[1..], 4, 1, &ADDRESS), (9, 0, 0));
+    assert_eq!(calls::set_up(&mut block, 0, 1, 1, &ADDRESS), (9, 0, 0));
+    assert_eq!(calls::set_up(&mut block, 65, 1, 1, &ADDRESS), (9, 0, 0));
+    assert_eq!(calls::set_up(&mut block, 4, 1, 1, &ADDRESS[..5]), (9, 0, 0));
+    assert_eq!(calls::set_up(&mut block[1..], 4, 1, 1, &ADDRESS), (9, 0, 0));
     for edition in [0, 3, 257, u32::MAX] {
-        assert_eq!(calls::set_up(&mut block, 4, edition, &ADDRESS), (9, 0, 0));
+        assert_eq!(calls::set_up(&mut block, 4, edition, 1, &ADDRESS), (9, 0, 0));
     }
     assert!(block.iter().all(|octet| *octet == 0x5A));
-    assert_eq!(calls::set_up(&mut block, 4, 1, &ADDRESS), (0, 0, 0));
+    assert_eq!(calls::set_up(&mut block, 4, 1, 1, &ADDRESS), (0, 0, 0));
     assert_eq!(block, fresh(4).image());
-    assert_eq!(calls::set_up(&mut block, 4, 2, &ADDRESS), (0, 0, 0));
-    assert_eq!(block, Bridge::fresh(4, 2, &ADDRESS).unwrap().image());
+    assert_eq!(calls::set_up(&mut block, 4, 2, 1, &ADDRESS), (0, 0, 0));
+    assert_eq!(block, Bridge::fresh(4, 2, 1, &ADDRESS).unwrap().image());
 }
 
 #[test]

@@ -230,7 +230,7 @@ fn timers_are_judged_together() {
 #[test]
 fn priorities_of_both_editions() {
     let judged = |edition: u32, text: &str, number: i32| {
-        let mut bridge = Bridge::fresh(4, edition, &ADDRESS).unwrap();
+        let mut bridge = Bridge::fresh(4, edition, 1, &ADDRESS).unwrap();
         let status = set(&mut bridge, &[(text, integer(number))]);
         assert_eq!(bridge.edition, edition);
         assert_eq!(get(&bridge, text) == integer(number), status == (0, 0), "{text} {number}");

@@ -107,7 +107,7 @@ fn an_image_is_read_back() {
 #[test]
 fn fresh_octets() {
     let block = fresh(4).image();
-    assert_eq!(block[..32], hex("00000004 00000000 00000001 00000000 001122334455 0001 01 00000000000000"));
+    assert_eq!(block[..32], hex("00000004 00000000 00000001 00000000 001122334455 0001 01 01 0000 00000000"));
     assert_eq!(block[32..52], hex("00008000 000007D0 000000C8 000005DC 00000080"));
     assert_eq!(block[6196..6200], hex("0001 01 00"));
     assert_eq!(block[6196 + 36..6196 + 60], hex("F000000000000000 0000000000000000 F000000000000000"));
@@ -158,7 +158,7 @@ fn the_total_of_active_rows() {
 fn blocks_that_are_not_legal() {
     let legal = with_rows(4).image();
     let (vlan, fixed) = (6196, 21556);
-    let changes: [(usize, &[u8]); 28] = [
+    let changes: [(usize, &[u8]); 30] = [
         (3, &[0]),
         (3, &[65]),
         (11, &[4]),
@@ -169,11 +169,13 @@ fn blocks_that_are_not_legal() {
         (23, &[0]),
         (24, &[0]),
         (24, &[3]),
-        (25, &[1]),
+        (25, &[2]),
+        (26, &[1]),
         (36, &[0, 0, 2, 87]),
         (40, &[0, 0, 3, 133]),
         (44, &[0, 0, 4, 75]),
         (64, &[0, 0, 0, 1]),
+        (816, &[0, 0, 5, 0xBE]),
         (5940, &[1]),
         (vlan, &[0, 2]),
         (vlan, &[0, 0]),
@@ -200,7 +202,7 @@ fn blocks_that_are_not_legal() {
 /// Fresh contents are legal in both editions, and in edition 2 priorities stand in steps.
 #[test]
 fn editions_of_a_block() {
-    let (old, new) = (fresh(4).image(), Bridge::fresh(4, 2, &ADDRESS).unwrap().image());
+    let (old, new) = (fresh(4).image(), Bridge::fresh(4, 2, 1, &ADDRESS).unwrap().image());
     let differing: Vec<usize> = (0..old.len()).filter(|at| old[*at] != new[*at]).collect();
     assert_eq!((differing, old[24], new[24]), (vec![24], 1, 2));
     let legal = |edition: u8, start: usize, priority: u32| {

@@ -2,12 +2,12 @@
 
 use super::judge::{names_of, needed};
 use crate::generate::contents::{any, right};
-use crate::generate::names::{object, possible_index};
+use crate::generate::names::{foreign_object, object, possible_index};
 use crate::generate::sets::{at_full, careful, crowded, faulty, fits};
-use crate::model::bridge::{Bridge, MOST_ROWS};
+use crate::model::bridge::Bridge;
 use crate::model::message::{Binding, MOST_BINDINGS};
-use crate::model::names::{Shape, TABLE};
-use crate::model::terms::{GrowingTable, Named};
+use crate::model::names::{GrowingTable, Shape, TABLE};
+use crate::model::terms::Named;
 use crate::random::Random;
 use std::collections::BTreeSet;
 use std::slice::from_ref;
@@ -15,10 +15,10 @@ use std::slice::from_ref;
 /// The bindings of each message.
 pub type Draft = Vec<Vec<Binding>>;
 
-/// Rows that a table may need: no more than it has room for, one more, or any number.
-const ROOM: usize = MOST_ROWS;
-const ONE_OVER: usize = MOST_ROWS + 1;
-const ANY: usize = usize::MAX;
+/// Rows that a table may need over its room: none, one, or any number.
+const ROOM: usize = 0;
+const ONE_OVER: usize = 1;
+const ANY: usize = usize::MAX / 2;
 
 /// Few messages or many, the most that a batch can have and one more.
 pub fn draft(random: &mut Random, bridge: &Bridge) -> Draft {
@@ -29,10 +29,13 @@ pub fn draft(random: &mut Random, bridge: &Bridge) -> Draft {
         return draft;
     }
     keep_apart(bridge, &mut draft);
+    // Of the first table of the bridge and of the others.
     let rooms =
         [[ROOM, ROOM], [ROOM, ROOM], [ROOM, ROOM], [ONE_OVER, ROOM], [ROOM, ONE_OVER], [ANY, ONE_OVER], [ANY, ANY]];
-    let most = random.pick(&rooms);
-    forget_rows(random, bridge, &mut draft, most);
+    let [first, others] = random.pick(&rooms);
+    for (table, over) in [(GrowingTable::Vlan, first), (GrowingTable::Static, others), (GrowingTable::Pair, first)] {
+        forget_rows(random, bridge, &mut draft, (table, over));
+    }
     for _ in 0..random.pick(&[0, 0, 0, 1, 2, 4]) {
         join_two(random, bridge, &mut draft);
     }
@@ -53,7 +56,7 @@ fn message(random: &mut Random, bridge: &Bridge) -> Vec<Binding> {
 fn scattered(random: &mut Random, bridge: &Bridge) -> Vec<Binding> {
     let mut bindings = Vec::new();
     for _ in 0..random.below(MOST_BINDINGS + 1) {
-        let entry = object(random);
+        let entry = if random.chance(4) { foreign_object(random, bridge) } else { object(random, bridge) };
         let index = match entry.shape {
             Shape::Vlan => vec![1 + random.below(4094) as u32],
             Shape::Static => {
@@ -79,17 +82,14 @@ fn keep_apart(bridge: &Bridge, draft: &mut Draft) {
     }
 }
 
-/// Takes out bindings of absent rows, so that the tables need no more than so many rows.
-fn forget_rows(random: &mut Random, bridge: &Bridge, draft: &mut Draft, most: [usize; 2]) {
+/// Takes out bindings of absent rows, so that a table needs no more than so many rows over its room.
+fn forget_rows(random: &mut Random, bridge: &Bridge, draft: &mut Draft, (table, over): (GrowingTable, usize)) {
     let names: Vec<BTreeSet<Named>> = draft.iter().map(|message| names_of(bridge, message)).collect();
-    let mut forgotten = BTreeSet::new();
-    for (at, table) in [GrowingTable::Vlan, GrowingTable::Static].into_iter().enumerate() {
-        let rows = names.iter().flatten().filter(|row| row.growing == Some(table) && !bridge.live(row));
-        let mut absent: Vec<&Named> = rows.collect();
-        random.shuffle(&mut absent);
-        let excess = needed(bridge, &names)[at].saturating_sub(most[at]);
-        forgotten.extend(absent.into_iter().take(excess).cloned());
-    }
+    let rows = names.iter().flatten().filter(|row| row.growing == Some(table) && !bridge.live(row));
+    let mut absent: Vec<&Named> = rows.collect();
+    random.shuffle(&mut absent);
+    let excess = needed(bridge, &names, table).saturating_sub(bridge.room(table) + over);
+    let forgotten: BTreeSet<Named> = absent.into_iter().take(excess).cloned().collect();
     for message in draft {
         message.retain(|binding| names_of(bridge, from_ref(binding)).is_disjoint(&forgotten));
     }

@@ -6,27 +6,30 @@ use crate::generate::blocks::pokes;
 use crate::generate::damage::{about_longest, damaged, many_bindings, noise, wrong_inside};
 use crate::generate::sets::{careful, faulty};
 use crate::generate::start;
-use crate::model::bridge::{Bridge, MOST_ROWS};
+use crate::model::bridge::Bridge;
 use crate::model::console::{frame, HEADER};
 use crate::model::message::{write_request, Binding, Content, Kind, Request, LONGEST};
+use crate::model::names::{MOST_PAIRS, MOST_ROWS};
 use crate::random::Random;
 
 /// A fresh bridge, or one with numbers and rows of all kinds; its tables are often full or nearly so.
 pub fn bridge(random: &mut Random) -> Bridge {
-    let ports = start::ports(random);
-    let edition = start::edition(random);
-    let fresh = Bridge::fresh(ports, edition, &start::address(random)).expect("ports, an edition and an address");
+    let fresh = start::fresh(random);
     if random.chance(20) {
         return fresh;
     }
     let mut bridge = start::filled(random, fresh);
     let (vlans, statics) = (MOST_ROWS - random.below(40), MOST_ROWS - random.below(40));
+    let pairs = MOST_PAIRS - random.below(20);
     if random.chance(60) {
         while bridge.vlans.len() > vlans {
             bridge.vlans.pop_first();
         }
         while bridge.statics.len() > statics {
             bridge.statics.pop_last();
+        }
+        while bridge.pairs.len() > pairs {
+            bridge.pairs.pop_first();
         }
     }
     bridge

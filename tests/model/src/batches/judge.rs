@@ -1,20 +1,18 @@
-//! The batch checker of paper 02's E10, with rulings 57 to 62: refusals first, then pairs of messages, then room.
+//! The batch checker of paper 02's E10, with rulings 57 to 62, and E12's table: refusals first, then pairs of messages, then room.
 
 use crate::batches::Batch;
-use crate::model::bridge::{Bridge, MOST_ROWS};
+use crate::model::bridge::Bridge;
 use crate::model::calls::BLOCK_NOT_LEGAL;
 use crate::model::console::{Event, Stream, HEADER_WRONG};
 use crate::model::message::{read, Binding, Refusal, WRONG_HEAD};
-use crate::model::terms::{named_by, GrowingTable, Named};
+use crate::model::names::{GrowingTable, GROWING};
+use crate::model::terms::{named_by, Named};
 use std::collections::BTreeSet;
 
 /// Messages of a batch.
 pub const MOST_MESSAGES: usize = 64;
 /// Octets behind 64 frames.
 pub const BATCH_LONG: u32 = 23;
-
-pub const VLAN_TABLE: u32 = 1;
-pub const STATIC_TABLE: u32 = 2;
 
 /// `rb_check_batch`.
 pub fn check(block: &[u8], batch: &[u8]) -> Batch {
@@ -79,7 +77,7 @@ fn read_set(message: &[u8]) -> Result<Vec<Binding>, Refusal> {
 
 /// The rows and scalars that a message names, those of bindings at fault too; the three timers are one (ruling 59).
 pub fn names_of(bridge: &Bridge, bindings: &[Binding]) -> BTreeSet<Named> {
-    named_by(bridge.ports, bindings)
+    named_by(bridge, bindings)
 }
 
 /// The least lower number, then the least higher, of two messages that name something in common; counted from 0.
@@ -89,21 +87,15 @@ fn first_pair(names: &[BTreeSet<Named>]) -> Option<(usize, usize)> {
     pairs.find(|(first, second)| !names[*first].is_disjoint(&names[*second]))
 }
 
-/// The first table whose live rows and absent rows named are over its room; 0 where there is none.
+/// The first table whose live rows and absent rows named are over its room, from 1: VLAN, static, port pairs; 0 where there is none.
 fn first_short(bridge: &Bridge, names: &[BTreeSet<Named>]) -> u32 {
-    let [vlans, statics] = needed(bridge, names);
-    if vlans > MOST_ROWS {
-        VLAN_TABLE
-    } else if statics > MOST_ROWS {
-        STATIC_TABLE
-    } else {
-        0
-    }
+    let is_short = |table: &GrowingTable| needed(bridge, names, *table) > bridge.room(*table);
+    GROWING.iter().position(is_short).map_or(0, |place| place as u32 + 1)
 }
 
-/// Live rows and absent rows named, each once, of both growing tables.
-pub fn needed(bridge: &Bridge, names: &[BTreeSet<Named>]) -> [usize; 2] {
+/// Live rows and absent rows named, each once, of a growing table.
+pub fn needed(bridge: &Bridge, names: &[BTreeSet<Named>], table: GrowingTable) -> usize {
     let all: BTreeSet<&Named> = names.iter().flatten().collect();
-    let absent = |table| all.iter().filter(|row| row.growing == Some(table) && !bridge.live(row)).count();
-    [bridge.vlans.len() + absent(GrowingTable::Vlan), bridge.statics.len() + absent(GrowingTable::Static)]
+    let absent = all.iter().filter(|row| row.growing == Some(table) && !bridge.live(row)).count();
+    bridge.rows(table) + absent
 }

@@ -3,15 +3,15 @@
 use super::compare::messages_of;
 use super::judge::{names_of, needed, read_all, take_frame, MOST_MESSAGES};
 use super::Batch;
-use crate::model::bridge::{Bridge, MOST_ROWS};
+use crate::model::bridge::Bridge;
 use crate::model::console::{HEADER, HEADER_WRONG, LENGTH_OVER, MARK};
 use crate::model::message::{read, Binding, LONGEST, WRONG_HEAD};
-use crate::model::names::split;
+use crate::model::names::{split, GrowingTable, SOURCE_ROUTING};
 use crate::model::terms::Named;
 use std::collections::{BTreeMap, BTreeSet};
 
 /// What must have been met at least once.
-const REQUIRED: [&str; 46] = [
+const REQUIRED: [&str; 53] = [
     "accepted",
     "accepted: no message",
     "accepted: 64 messages",
@@ -21,6 +21,9 @@ const REQUIRED: [&str; 46] = [
     "accepted: the block changes",
     "accepted: every VLAN row taken",
     "accepted: every static row taken",
+    "accepted: every pair taken",
+    "accepted: on a source-routing bridge",
+    "accepted: a name of the other device twice",
     "accepted: a message of 1472 octets",
     "pair",
     "pair: of timers alone",
@@ -29,12 +32,16 @@ const REQUIRED: [&str; 46] = [
     "pair: by a binding at fault alone",
     "pair: another has a lower second number",
     "pair: a table is short too",
+    "pair: by a row of ports",
     "pair: the order tells",
     "VLAN table short",
     "VLAN table short by one row",
     "VLAN table short, static table too",
     "static table short",
     "static table short by one row",
+    "pair table short",
+    "pair table short by one row",
+    "pair table short: the order tells",
     "table short: the order tells",
     "refused with 3",
     "refused with 3: the batch is wrong too",
@@ -85,19 +92,24 @@ impl Met {
 
     fn note_read(&mut self, bridge: &Bridge, batch: &[u8], messages: &[Vec<Binding>], said: &Batch) {
         let names: Vec<BTreeSet<Named>> = messages.iter().map(|bindings| names_of(bridge, bindings)).collect();
-        let [vlans, statics] = needed(bridge, &names);
-        let (vlans_short, statics_short) = (vlans > MOST_ROWS, statics > MOST_ROWS);
+        let needed = |table| needed(bridge, &names, table);
+        let over = |table| needed(table).saturating_sub(bridge.room(table));
+        let full = |table| needed(table) == bridge.room(table) && bridge.rows(table) < needed(table);
+        let [vlans, statics, pairs] = [GrowingTable::Vlan, GrowingTable::Static, GrowingTable::Pair].map(over);
         if said.first > 0 {
             self.note_pair(bridge, messages, &names, said);
-            self.note_as("pair: a table is short too", vlans_short || statics_short);
+            self.note_as("pair: a table is short too", vlans + statics + pairs > 0);
         } else if said.table > 0 {
-            self.note_as("VLAN table short", vlans_short);
-            self.note_as("VLAN table short by one row", vlans == MOST_ROWS + 1);
-            self.note_as("VLAN table short, static table too", vlans_short && statics_short);
-            self.note_as("static table short", !vlans_short);
-            self.note_as("static table short by one row", !vlans_short && statics == MOST_ROWS + 1);
+            self.note_as("VLAN table short", said.table == 1);
+            self.note_as("VLAN table short by one row", vlans == 1);
+            self.note_as("VLAN table short, static table too", vlans > 0 && statics > 0);
+            self.note_as("static table short", said.table == 2);
+            self.note_as("static table short by one row", vlans == 0 && statics == 1);
+            self.note_as("pair table short", said.table == 3);
+            self.note_as("pair table short by one row", pairs == 1);
         } else {
             self.note_as("accepted", true);
+            self.note_as("accepted: on a source-routing bridge", bridge.device == SOURCE_ROUTING);
             self.note_as("accepted: no message", messages.is_empty());
             self.note_as("accepted: 64 messages", messages.len() == MOST_MESSAGES);
             self.note_as("accepted: a message without bindings", messages.iter().any(Vec::is_empty));
@@ -106,8 +118,10 @@ impl Met {
                 each.sum::<usize>() > named.len()
             };
             self.note_as("accepted: a message that names a row twice", messages.iter().zip(&names).any(repeats));
-            self.note_as("accepted: every VLAN row taken", vlans == MOST_ROWS && bridge.vlans.len() < vlans);
-            self.note_as("accepted: every static row taken", statics == MOST_ROWS && bridge.statics.len() < statics);
+            self.note_as("accepted: every VLAN row taken", full(GrowingTable::Vlan));
+            self.note_as("accepted: every static row taken", full(GrowingTable::Static));
+            self.note_as("accepted: every pair taken", full(GrowingTable::Pair));
+            self.note_as("accepted: a name of the other device twice", foreign_twice(bridge, messages));
             let longest = messages_of(batch).iter().any(|message| message.len() == LONGEST);
             self.note_as("accepted: a message of 1472 octets", longest);
         }
@@ -124,6 +138,7 @@ impl Met {
         // A scalar has one name, so that two timers alone are scalars in common with no name in common.
         let one_name = ours.iter().any(|binding| theirs.iter().any(|other| other.name == binding.name));
         let scalars = common.iter().all(|named| named.growing.is_none() && named.index == [0]);
+        self.note_as("pair: by a row of ports", common.iter().any(|named| named.growing == Some(GrowingTable::Pair)));
         self.note_as("pair: of timers alone", !one_name && scalars);
         self.note_as("pair: by other columns", !one_name && !scalars);
         let read_only = |binding: &&Binding| split(&binding.name).is_some_and(|(found, _)| !found.writable());
@@ -187,6 +202,7 @@ impl Met {
         self.note_as("accepted: the block changes", accepted && changed);
         self.note_as("pair: the order tells", said.first > 0 && !alike);
         self.note_as("table short: the order tells", said.table > 0 && !alike);
+        self.note_as("pair table short: the order tells", said.table == 3 && !alike);
     }
 
     /// Prints all counts and returns what was never met.
@@ -196,4 +212,17 @@ impl Met {
         }
         REQUIRED.iter().filter(|what| self.counts.get(**what).is_none_or(|count| *count == 0)).copied().collect()
     }
+}
+
+/// Two messages have one name of an object that the other device has.
+fn foreign_twice(bridge: &Bridge, messages: &[Vec<Binding>]) -> bool {
+    let is_foreign = |name: &[u32]| split(name).is_some_and(|(found, _)| !found.is_of(bridge.device));
+    let mut seen = BTreeSet::new();
+    messages.iter().any(|bindings| {
+        let names: BTreeSet<&[u32]> =
+            bindings.iter().map(|binding| &binding.name[..]).filter(|name| is_foreign(name)).collect();
+        let again = !names.is_disjoint(&seen);
+        seen.extend(names);
+        again
+    })
 }

@@ -12,9 +12,10 @@ use refbridge_model::player::{play, Failure, Player};
 use refbridge_model::random::Random;
 use refbridge_model::shrink::shrink;
 use refbridge_model::step::History;
-use refbridge_model::sweeps::{every_block_octet, every_name, every_range, every_request_octet};
+use refbridge_model::sweeps::{
+    every_block_octet, every_frame, every_name, every_pair, every_range, every_request_octet,
+};
 use refbridge_model::tally::Tally;
-use refbridge_model::Bridge;
 use std::panic::{catch_unwind, AssertUnwindSafe};
 use std::process::ExitCode;
 use std::time::{Duration, Instant};
@@ -31,11 +32,13 @@ struct Options {
 }
 
 /// What is tried in order and not at random, after the histories.
-const SWEEPS: [(&str, Sweep); 4] = [
+const SWEEPS: [(&str, Sweep); 6] = [
     ("every octet of a block", every_block_octet),
     ("every range", every_range),
     ("every octet of a request", every_request_octet),
     ("every name", every_name),
+    ("every largest frame", every_frame),
+    ("every two ports", every_pair),
 ];
 
 type Sweep = fn(Library, &mut Random, &mut Tally) -> Result<(), Box<(History, Failure)>>;
@@ -172,8 +175,7 @@ fn run(library: Library, options: &Options, tally: &mut Tally) -> Outcome {
 /// Generates a history while it is played; on a difference gives the steps so far.
 fn one_history(library: Library, seed: u64, tally: &mut Tally) -> Result<(), Box<(History, Failure)>> {
     let mut random = Random::new(seed.wrapping_mul(0xD134_2543_DE82_EF95));
-    let (ports, edition) = (start::ports(&mut random), start::edition(&mut random));
-    let fresh = Bridge::fresh(ports, edition, &start::address(&mut random)).expect("1 to 64 ports");
+    let fresh = start::fresh(&mut random);
     let filled = random.chance(50);
     tally.note("start, fresh or filled", u32::from(filled));
     let start = if filled { start::filled(&mut random, fresh) } else { fresh };

@@ -2,7 +2,7 @@
 //!
 //!     submission FOLDER FILES
 //!
-//! A file has four bridges, each with a set-up, the requests of the differential test's scripts, timers and set-ups that
+//! A file has four bridges, one at least of each device, each with a set-up, the requests of the differential test's scripts, timers and set-ups that
 //! are refused, and at the end a walk over everything. A request that can be read is written as the command that makes it.
 
 use refbridge_model::case_file::{bridge_line, hex, write_poke, MOST_OCTETS};
@@ -11,6 +11,7 @@ use refbridge_model::library::Returned;
 use refbridge_model::model::calls;
 use refbridge_model::model::image::BLOCK;
 use refbridge_model::model::message::{read, Content, Kind, Request, LONGEST};
+use refbridge_model::model::names::{SOURCE_ROUTING, TRANSPARENT};
 use refbridge_model::random::Random;
 use refbridge_model::step::Step;
 use refbridge_model::Bridge;
@@ -48,16 +49,17 @@ fn main() -> ExitCode {
 fn write_file(random: &mut Random) -> String {
     let mut writer = Writer { lines: Vec::new(), prelude: Vec::new(), cases: 0, block: vec![0; BLOCK] };
     for bridge in 0..BRIDGES {
-        writer.write_bridge(random, bridge + 1 == BRIDGES);
+        let device = [TRANSPARENT, SOURCE_ROUTING].get(bridge).copied().unwrap_or_else(|| start::device(random));
+        writer.write_bridge(random, device, bridge + 1 == BRIDGES);
     }
     writer.lines.join("\n") + "\n"
 }
 
 impl Writer {
     /// A bridge's cases; one that fills begins with sets until a table is full.
-    fn write_bridge(&mut self, random: &mut Random, fills: bool) {
+    fn write_bridge(&mut self, random: &mut Random, device: u32, fills: bool) {
         let last = self.cases + CASES - 1;
-        self.set_up(start::ports(random), start::edition(random), &start::address(random));
+        self.set_up(start::ports(random), start::edition(random), device, &start::address(random));
         if fills {
             let steps = scripts::fill(random, &self.bridge());
             self.play(&steps);
@@ -72,8 +74,9 @@ impl Writer {
     fn write_some(&mut self, random: &mut Random, most: usize) {
         match random.below(40) {
             0 => {
-                let (ports, edition) = random.pick(&[(0, 1), (65, 2), (4_000_000_000, 1), (4, 0), (4, 3)]);
-                self.set_up(ports, edition, &start::address(random));
+                let refused = [(0, 1, 1), (65, 2, 2), (4_000_000_000, 1, 1), (4, 0, 1), (4, 3, 2), (4, 1, 0), (4, 2, 3)];
+                let (ports, edition, device) = random.pick(&refused);
+                self.set_up(ports, edition, device, &start::address(random));
             }
             1 => self.timer("to256ths", random.within(0, 25_650), calls::to_256ths),
             2 => self.timer("tohundredths", random.within(0, 65_600), calls::to_hundredths),
@@ -103,9 +106,9 @@ impl Writer {
         self.lines.push(format!("-> {words}"));
     }
 
-    fn set_up(&mut self, ports: u32, edition: u32, address: &[u8]) {
-        self.case(bridge_line(ports, edition, address));
-        match calls::set_up(&mut self.block, ports, edition, address).0 {
+    fn set_up(&mut self, ports: u32, edition: u32, device: u32, address: &[u8]) {
+        self.case(bridge_line(ports, edition, device, address));
+        match calls::set_up(&mut self.block, ports, edition, device, address).0 {
             0 => self.expect("accepted".to_string()),
             refusal => self.expect(format!("refused {refusal}")),
         }

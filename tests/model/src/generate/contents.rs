@@ -2,7 +2,7 @@
 
 use crate::model::bridge::{all_ports, timers_agree, Bridge, PortSet, TIMERS};
 use crate::model::message::Content;
-use crate::model::names::{takes, type_of, Object, ObjectType, Syntax};
+use crate::model::names::{takes, type_of, Object, ObjectType, Syntax, LARGEST_FRAMES};
 use crate::random::Random;
 
 /// A set of ports 1..N: few, many, all or none.
@@ -59,6 +59,9 @@ pub fn agreeing_timers(random: &mut Random, old: [u32; 3]) -> ([u32; 3], [bool; 
 
 /// A number that an object of this edition takes, the least and the most more often.
 pub fn taken_number(random: &mut Random, object: Object, edition: u32) -> u32 {
+    if type_of(object).syntax == Syntax::Frame {
+        return random.pick(&LARGEST_FRAMES);
+    }
     let (low, high) = range(object);
     loop {
         // Steps are met by a number that is cut to one.
@@ -80,7 +83,9 @@ fn range(object: Object) -> (u32, u32) {
 /// Right in type, length and value.
 pub fn right(random: &mut Random, bridge: &Bridge, entry: &ObjectType) -> Content {
     match entry.syntax {
-        Syntax::Integer(..) => Content::Integer(taken_number(random, entry.object, bridge.edition) as i32),
+        Syntax::Integer(..) | Syntax::Frame => {
+            Content::Integer(taken_number(random, entry.object, bridge.edition) as i32)
+        }
         Syntax::Unsigned(..) => Content::Unsigned(taken_number(random, entry.object, bridge.edition)),
         Syntax::Counter => Content::Counter(random.number() as u32),
         Syntax::Address => Content::String(random.octets(6)),
@@ -94,6 +99,7 @@ pub fn right(random: &mut Random, bridge: &Bridge, entry: &ObjectType) -> Conten
         }
         Syntax::RowStatus => Content::Integer(random.pick(&[1, 2, 4, 5, 6])),
         Syntax::StaticStatus => Content::Integer(random.pick(&[2, 3, 4, 5])),
+        Syntax::PairState => Content::Integer(random.pick(&[1, 1, 2, 2, 3])),
     }
 }
 
@@ -144,6 +150,17 @@ pub fn priority_beside_a_step(random: &mut Random, object: Object) -> Option<u32
     Some(below + random.pick(&[1, step / 2, step - 1]))
 }
 
+/// A number beside one of the largest frames or between two of them, or below or above all.
+pub fn no_frame(random: &mut Random) -> i32 {
+    let frame = random.pick(&LARGEST_FRAMES) as i32;
+    let between = random.within(517, 65534) as i32;
+    let number = random.pick(&[frame - 1, frame + 1, frame + 65536, -frame, between, 1500, 0]);
+    if LARGEST_FRAMES.iter().any(|frame| *frame as i32 == number) {
+        return 1500;
+    }
+    number
+}
+
 /// None where the object's type has no wrong value.
 pub fn wrong_value(random: &mut Random, bridge: &Bridge, entry: &ObjectType) -> Option<Content> {
     let negative = -1 - random.below(70_000) as i32;
@@ -157,6 +174,8 @@ pub fn wrong_value(random: &mut Random, bridge: &Bridge, entry: &ObjectType) -> 
         Syntax::Unsigned(_, high) => Content::Unsigned(random.pick(&[0, high + 1, 65536 + 1, 0x8000_0001, u32::MAX])),
         Syntax::RowStatus => Content::Integer(random.pick(&[0, 3, 7, 260, far])),
         Syntax::StaticStatus => Content::Integer(random.pick(&[0, 1, 6, 259, far])),
+        Syntax::PairState => Content::Integer(random.pick(&[0, 4, 257, 258, far])),
+        Syntax::Frame => Content::Integer(no_frame(random)),
         Syntax::Ports if bridge.ports < 64 => {
             let above = random.within(bridge.ports + 1, 64);
             let set = port_set(random, bridge.ports) | 1 << (64 - above);

@@ -4,6 +4,7 @@ pub mod blocks;
 pub mod contents;
 pub mod damage;
 pub mod names;
+pub mod pairs;
 pub mod scripts;
 pub mod sets;
 pub mod start;

@@ -1,7 +1,7 @@
 //! Names to ask for: existing instances, near misses, prefixes, and names before, between and after all objects.
 
 use crate::model::bridge::Bridge;
-use crate::model::names::{Object, ObjectType, Shape, BRIDGE, TABLE};
+use crate::model::names::{type_of, Object, ObjectType, Shape, BRIDGE, TABLE};
 use crate::random::Random;
 
 /// Sub-ids at the ends of ranges, and those that a text or octet comparison would put in another order.
@@ -47,11 +47,15 @@ pub fn present_index(random: &mut Random, bridge: &Bridge, shape: Shape) -> Opti
             let rows = bridge.statics.len();
             (rows > 0).then(|| bridge.statics.keys().nth(random.below(rows)).unwrap().to_vec())
         }
+        Shape::Pair => {
+            let rows = bridge.pairs.len();
+            (rows > 0).then(|| bridge.pairs.keys().nth(random.below(rows)).unwrap().to_vec())
+        }
         _ => Some(possible_index(random, bridge, shape)),
     }
 }
 
-/// An index that this bridge can have, often beside a row that stands.
+/// An index that this bridge can have, often beside a row that stands. A bridge of one port can have no pair, and 1.2 is given.
 pub fn possible_index(random: &mut Random, bridge: &Bridge, shape: Shape) -> Vec<u32> {
     match shape {
         Shape::Scalar => vec![0],
@@ -63,6 +67,18 @@ pub fn possible_index(random: &mut Random, bridge: &Bridge, shape: Shape) -> Vec
             vec![random.pick(&ids).min(4094)]
         }
         Shape::Static => possible_static(random, bridge),
+        Shape::Pair => possible_pair(random, bridge),
+    }
+}
+
+/// Any pair of ports, or one that differs by a port from one that stands.
+fn possible_pair(random: &mut Random, bridge: &Bridge) -> Vec<u32> {
+    let low = random.within(1, bridge.ports.max(2) - 1);
+    let high = random.within(low + 1, bridge.ports.max(2));
+    match present_index(random, bridge, Shape::Pair) {
+        Some(index) if random.chance(30) && low < index[1] => vec![low, index[1]],
+        Some(index) if random.chance(30) && index[0] < high => vec![index[0], high],
+        _ => vec![low, high],
     }
 }
 
@@ -85,6 +101,8 @@ pub fn impossible_index(random: &mut Random, bridge: &Bridge, shape: Shape) -> V
         (1, _) => index.push(edge(random)),
         (2, Shape::Vlan) => index[first] = random.pick(&[0, 4095, 65536 + 1, 0xFFFF_FFFF]),
         (2, Shape::Static) => index[random.below(6)] = random.pick(&[256, 257, 0xFFFF_FFFF]),
+        (2, Shape::Pair) => index.swap(first, last),
+        (3, Shape::Pair) if random.chance(50) => index[random.below(2)] = index[random.below(2)],
         (2, _) => index[first] = random.pick(&[0, bridge.ports + 1, 65536 + 1, 0xFFFF_FFFF]),
         (_, Shape::PortPriority) => index[last] = random.pick(&[8, 9, 256]),
         _ => index[last] = random.pick(&[bridge.ports + 1, 256, 0xFFFF_FFFF]),
@@ -92,24 +110,48 @@ pub fn impossible_index(random: &mut Random, bridge: &Bridge, shape: Shape) -> V
     index
 }
 
-pub fn object(random: &mut Random) -> &'static ObjectType {
-    &TABLE[random.below(TABLE.len())]
+/// An object that the bridge's device has, or one that it has not.
+fn object_where(random: &mut Random, bridge: &Bridge, has: bool) -> &'static ObjectType {
+    loop {
+        let entry = &TABLE[random.below(TABLE.len())];
+        if entry.is_of(bridge.device) == has {
+            return entry;
+        }
+    }
+}
+
+/// An object of this bridge.
+pub fn object(random: &mut Random, bridge: &Bridge) -> &'static ObjectType {
+    object_where(random, bridge, true)
+}
+
+/// An object of the other device, which this bridge has not.
+pub fn foreign_object(random: &mut Random, bridge: &Bridge) -> &'static ObjectType {
+    object_where(random, bridge, false)
+}
+
+/// A name that would be of an instance, or begin one, were the bridge the other device.
+pub fn foreign_name(random: &mut Random, bridge: &Bridge) -> Vec<u32> {
+    let entry = foreign_object(random, bridge);
+    let index = possible_index(random, bridge, entry.shape);
+    let kept = if random.chance(20) { random.below(index.len() + 1) } else { index.len() };
+    entry.name(&index[..kept])
 }
 
 /// The whole name of an instance that exists.
 pub fn instance(random: &mut Random, bridge: &Bridge) -> Vec<u32> {
-    let entry = object(random);
+    let entry = object(random, bridge);
     match present_index(random, bridge, entry.shape) {
         Some(index) => entry.name(&index),
-        None => TABLE[Object::NumVlans as usize].name(&[0]),
+        None => type_of(Object::NumPorts).name(&[0]),
     }
 }
 
 /// Any name at all, of 2 to 128 sub-ids.
 pub fn any_name(random: &mut Random, bridge: &Bridge) -> Vec<u32> {
     let mut name = instance(random, bridge);
-    let entry = object(random);
-    match random.below(14) {
+    let entry = object(random, bridge);
+    match random.below(15) {
         0..=4 => {}
         5 => name = entry.name(&[]),
         6 => name.truncate(2 + random.below(name.len() - 1)),
@@ -121,6 +163,7 @@ pub fn any_name(random: &mut Random, bridge: &Bridge) -> Vec<u32> {
         9 => name = entry.name(&possible_index(random, bridge, entry.shape)),
         10 => name = entry.name(&impossible_index(random, bridge, entry.shape)),
         11 => name = unlisted_column(random, entry),
+        12 => name = foreign_name(random, bridge),
         _ => name = outside(random, bridge),
     }
     if random.chance(2) {
@@ -144,7 +187,7 @@ fn unlisted_column(random: &mut Random, entry: &ObjectType) -> Vec<u32> {
 /// Before, after or between the objects.
 fn outside(random: &mut Random, bridge: &Bridge) -> Vec<u32> {
     let under = |rest: &[u32]| [&BRIDGE[..], rest].concat();
-    match random.below(12) {
+    match random.below(14) {
         0 => vec![1, 3],
         1 => vec![0, 0],
         2 => vec![1, 3, 6, 1, 2, 1, 16, 0xFFFF_FFFF],
@@ -155,6 +198,9 @@ fn outside(random: &mut Random, bridge: &Bridge) -> Vec<u32> {
         7 => under(&[7, 1, 4, 5, 1, random.pick(&[3, 4]), bridge.ports]),
         8 => under(&[7, 1, 4, 5, 1, 3, bridge.ports, edge(random)]),
         9 => vec![0xFFFF_FFFF; 2 + random.below(8)],
+        // What document 004 has beside the largest frame and the pairs, which no device has here.
+        12 => under(&[3, 1, 1, random.pick(&[1, 2, 4, 5, 7, 18]), random.within(1, bridge.ports)]),
+        13 => under(&[3, random.pick(&[1, 2, 3, 4, 5, 6]), random.pick(&[0, 1, 2])]),
         10 => (0..2 + random.below(12)).map(|_| random.number() as u32).collect(),
         _ => (0..2 + random.below(10)).map(|_| edge(random)).collect(),
     }

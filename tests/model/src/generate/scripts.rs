@@ -3,11 +3,11 @@
 use super::blocks::pokes;
 use super::damage;
 use super::names::{any_name, instance, present_index};
-use super::sets;
-use crate::model::bridge::{Bridge, MOST_ROWS};
+use super::{pairs, sets};
+use crate::model::bridge::Bridge;
 use crate::model::image::BLOCK;
 use crate::model::message::{write_request, Binding, Content, Kind, Request, LONGEST, MOST_BINDINGS};
-use crate::model::names::{type_of, Object};
+use crate::model::names::{type_of, Object, DEVICES, SOURCE_ROUTING, TRANSPARENT};
 use crate::model::terms::named_by;
 use crate::random::Random;
 use crate::step::Step;
@@ -15,34 +15,44 @@ use crate::step::Step;
 /// Steps with one aim. They leave a legal block where there was one.
 type Script = fn(&mut Random, &Bridge) -> Vec<Step>;
 
-/// All scripts, and how often each comes among a hundred.
-pub const SCRIPTS: [(&str, usize, Script); 20] = [
-    ("get", 9, |random, bridge| call(random, bridge, Kind::Get, any_names)),
-    ("get-next", 9, |random, bridge| call(random, bridge, Kind::GetNext, any_names)),
-    ("walk of a part", 3, walk_of_a_part),
-    ("whole walk", 1, whole_walk),
-    ("set and gets", 8, set_and_gets),
-    ("faulty set", 11, |random, bridge| call(random, bridge, Kind::Set, sets::faulty)),
-    ("timers", 4, |random, bridge| call(random, bridge, Kind::Set, sets::timers_together)),
-    ("priorities", 2, |random, bridge| call(random, bridge, Kind::Set, sets::priorities)),
-    ("crowded set", 6, |random, bridge| call(random, bridge, Kind::Set, sets::crowded)),
-    ("exchange of Egress and Forbidden", 2, exchange),
-    ("rows made and removed", 9, |random, bridge| call(random, bridge, Kind::Set, sets::at_full)),
-    ("long answer", 4, |random, bridge| vec![long_answer(random, bridge)]),
-    ("damaged request", 9, |random, bridge| vec![Step::call(damaged(random, bridge))]),
-    ("many bindings", 3, |random, _| vec![Step::call(damage::many_bindings(random))]),
-    ("wrong inside", 2, |random, _| vec![Step::call(damage::wrong_inside(random))]),
-    ("damaged block", 7, damaged_block),
-    ("wrong sizes", 2, |random, bridge| vec![wrong_sizes(random, bridge)]),
-    ("long request", 2, |random, bridge| vec![Step::call(long_request(random, bridge))]),
-    ("reset", 2, reset),
-    ("pair in both orders", 5, |random, bridge| vec![pair(random, bridge)]),
+/// The devices that a script is for.
+type Devices = std::ops::RangeInclusive<u32>;
+const FIRST: Devices = TRANSPARENT..=TRANSPARENT;
+const SECOND: Devices = SOURCE_ROUTING..=SOURCE_ROUTING;
+
+/// All scripts, how often each comes among about a hundred of a device, and which devices have it.
+pub const SCRIPTS: [(&str, usize, Devices, Script); 24] = [
+    ("get", 9, DEVICES, |random, bridge| call(random, bridge, Kind::Get, any_names)),
+    ("get-next", 9, DEVICES, |random, bridge| call(random, bridge, Kind::GetNext, any_names)),
+    ("walk of a part", 3, DEVICES, walk_of_a_part),
+    ("whole walk", 1, DEVICES, whole_walk),
+    ("set and gets", 8, DEVICES, set_and_gets),
+    ("faulty set", 11, DEVICES, |random, bridge| call(random, bridge, Kind::Set, sets::faulty)),
+    ("timers", 4, FIRST, |random, bridge| call(random, bridge, Kind::Set, sets::timers_together)),
+    ("priorities", 2, FIRST, |random, bridge| call(random, bridge, Kind::Set, sets::priorities)),
+    ("crowded set", 6, DEVICES, |random, bridge| call(random, bridge, Kind::Set, sets::crowded)),
+    ("exchange of Egress and Forbidden", 2, FIRST, exchange),
+    ("port pairs", 8, SECOND, |random, bridge| call(random, bridge, Kind::Set, pairs::pairs)),
+    ("half a pair", 4, SECOND, |random, bridge| call(random, bridge, Kind::Set, pairs::half_a_pair)),
+    ("last pairs", 3, SECOND, |random, bridge| call(random, bridge, Kind::Set, pairs::last_pairs)),
+    ("largest frames", 4, SECOND, |random, bridge| call(random, bridge, Kind::Set, pairs::frames)),
+    ("rows made and removed", 9, DEVICES, |random, bridge| call(random, bridge, Kind::Set, sets::at_full)),
+    ("long answer", 4, DEVICES, |random, bridge| vec![long_answer(random, bridge)]),
+    ("damaged request", 9, DEVICES, |random, bridge| vec![Step::call(damaged(random, bridge))]),
+    ("many bindings", 3, DEVICES, |random, _| vec![Step::call(damage::many_bindings(random))]),
+    ("wrong inside", 2, DEVICES, |random, _| vec![Step::call(damage::wrong_inside(random))]),
+    ("damaged block", 7, DEVICES, damaged_block),
+    ("wrong sizes", 2, DEVICES, |random, bridge| vec![wrong_sizes(random, bridge)]),
+    ("long request", 2, DEVICES, |random, bridge| vec![Step::call(long_request(random, bridge))]),
+    ("reset", 2, DEVICES, reset),
+    ("pair in both orders", 5, DEVICES, |random, bridge| vec![pair(random, bridge)]),
 ];
 
 /// The next steps of a history, and the number of their script.
 pub fn script(random: &mut Random, bridge: &Bridge) -> (usize, Vec<Step>) {
-    let mut left = random.below(SCRIPTS.iter().map(|(_, share, _)| share).sum());
-    for (at, (_, share, script)) in SCRIPTS.iter().enumerate() {
+    let of_device = || SCRIPTS.iter().enumerate().filter(|(_, (_, _, devices, _))| devices.contains(&bridge.device));
+    let mut left = random.below(of_device().map(|(_, (_, share, ..))| share).sum());
+    for (at, (_, share, _, script)) in of_device() {
         if left < *share {
             return (at, script(random, bridge));
         }
@@ -53,8 +63,8 @@ pub fn script(random: &mut Random, bridge: &Bridge) -> (usize, Vec<Step>) {
 
 /// Sets that fill a table, for histories that start from a fresh block.
 pub fn fill(random: &mut Random, bridge: &Bridge) -> Vec<Step> {
-    let rows = MOST_ROWS - random.below(2);
-    let messages = sets::filling(random, bridge, rows);
+    let but = random.below(2);
+    let messages = sets::filling(random, bridge, but);
     messages.into_iter().map(|message| as_call(random, Kind::Set, message)).collect()
 }
 
@@ -259,8 +269,8 @@ fn pair(random: &mut Random, bridge: &Bridge) -> Step {
         [sets::careful, sets::careful, sets::faulty, sets::timers_together, sets::crowded, sets::at_full];
     let mut first = random.pick(&messages)(random, bridge);
     let mut second = random.pick(&messages)(random, bridge);
-    let named = named_by(bridge.ports, &first);
-    second.retain(|binding| named.is_disjoint(&named_by(bridge.ports, std::slice::from_ref(binding))));
+    let named = named_by(bridge, &first);
+    second.retain(|binding| named.is_disjoint(&named_by(bridge, std::slice::from_ref(binding))));
     // Bindings go until there is room.
     while !bridge.may_cross(&first, &second) {
         let of_first = second.is_empty() || (!first.is_empty() && random.chance(50));

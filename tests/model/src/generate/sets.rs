@@ -4,13 +4,15 @@ use super::contents::{
     agreeing_timers, any, port_octets, port_set, priority_beside_a_step, right, taken_number, timers, wrong_length,
     wrong_type, wrong_value,
 };
-use super::names::{any_name, impossible_index, object, possible_index, present_index};
-use crate::model::bridge::{Bridge, MOST_ROWS, TIMERS};
+use super::names::{any_name, foreign_object, impossible_index, object, possible_index, present_index};
+use super::pairs::{half_a_pair, pair_group};
+use super::start::all_pairs;
+use crate::model::bridge::{Bridge, TIMERS};
 use crate::model::message::{write_request, Binding, Content, Kind, Request, LONGEST, MOST_BINDINGS};
-use crate::model::names::{type_of, Object, ObjectType, Shape, Syntax, TABLE};
+use crate::model::names::{type_of, Object, ObjectType, Shape, Syntax, SOURCE_ROUTING, TABLE};
 use crate::random::Random;
 
-fn bind(object: Object, index: &[u32], content: Content) -> Binding {
+pub fn bind(object: Object, index: &[u32], content: Content) -> Binding {
     Binding { name: type_of(object).name(index), content }
 }
 
@@ -20,7 +22,7 @@ pub fn fits(bindings: &[Binding]) -> bool {
 }
 
 /// Adds a group where the message still has room for all of it and has none of its names.
-fn add(bindings: &mut Vec<Binding>, group: Vec<Binding>) {
+pub fn add(bindings: &mut Vec<Binding>, group: Vec<Binding>) {
     let repeated = group.iter().any(|new| bindings.iter().any(|old| old.name == new.name));
     let before = bindings.len();
     bindings.extend(group);
@@ -29,10 +31,10 @@ fn add(bindings: &mut Vec<Binding>, group: Vec<Binding>) {
     }
 }
 
-/// An object that a set may write, of a shape.
-fn writable(random: &mut Random, wanted: fn(&ObjectType) -> bool) -> &'static ObjectType {
+/// An object of the bridge that a set may write, of a kind that the bridge has.
+fn writable(random: &mut Random, bridge: &Bridge, wanted: fn(&ObjectType) -> bool) -> &'static ObjectType {
     loop {
-        let entry = object(random);
+        let entry = object(random, bridge);
         if entry.writable() && wanted(entry) {
             return entry;
         }
@@ -40,7 +42,7 @@ fn writable(random: &mut Random, wanted: fn(&ObjectType) -> bool) -> &'static Ob
 }
 
 fn setting(random: &mut Random, bridge: &Bridge) -> Vec<Binding> {
-    let entry = writable(random, |entry| entry.is_setting() && !TIMERS.contains(&entry.object));
+    let entry = writable(random, bridge, |entry| entry.is_setting() && !TIMERS.contains(&entry.object));
     let index = possible_index(random, bridge, entry.shape);
     vec![bind(entry.object, &index, right(random, bridge, entry))]
 }
@@ -51,9 +53,11 @@ fn timer_group((timers, changed): ([u32; 3], [bool; 3])) -> Vec<Binding> {
     bound.map(|place| bind(TIMERS[place], &[0], Content::Integer(timers[place] as i32))).collect()
 }
 
-/// Timers that may break a rule, among bindings that have no fault; now and then one of them has a fault of its own.
+/// Timers that may break a rule, among bindings that have no fault; now and then one of them has a fault of its own. A bridge
+/// without timers gets bindings that have no fault.
 pub fn timers_together(random: &mut Random, bridge: &Bridge) -> Vec<Binding> {
-    let mut group = timer_group(timers(random, bridge.timers()));
+    let Some(old) = bridge.timers() else { return careful(random, bridge) };
+    let mut group = timer_group(timers(random, old));
     if random.chance(30) {
         let entry = type_of(random.pick(&TIMERS));
         let content = match random.below(3) {
@@ -154,12 +158,14 @@ fn static_group(random: &mut Random, bridge: &Bridge) -> Vec<Binding> {
 pub fn careful(random: &mut Random, bridge: &Bridge) -> Vec<Binding> {
     let mut bindings = Vec::new();
     // Timers come from one group, since two that fit what stands need not fit each other.
-    if random.chance(30) {
-        bindings = timer_group(agreeing_timers(random, bridge.timers()));
+    if let (Some(old), true) = (bridge.timers(), random.chance(30)) {
+        bindings = timer_group(agreeing_timers(random, old));
     }
+    let routing = bridge.device == SOURCE_ROUTING;
     for _ in 0..random.below(10) {
         let group = match random.below(4) {
             0 => setting(random, bridge),
+            _ if routing => pair_group(random, bridge),
             1 => static_group(random, bridge),
             _ => vlan_group(random, bridge),
         };
@@ -182,7 +188,8 @@ pub fn faulty(random: &mut Random, bridge: &Bridge) -> Vec<Binding> {
 }
 
 fn at_fault(random: &mut Random, bridge: &Bridge, bindings: &[Binding]) -> Vec<Binding> {
-    let entry = writable(random, |_| true);
+    let entry = writable(random, bridge, |_| true);
+    let routing = bridge.device == SOURCE_ROUTING;
     let index = possible_index(random, bridge, entry.shape);
     let with = |content| vec![bind(entry.object, &index, content)];
     match random.below(10) {
@@ -194,8 +201,9 @@ fn at_fault(random: &mut Random, bridge: &Bridge, bindings: &[Binding]) -> Vec<B
         0 | 1 => vec![Binding { name: any_name(random, bridge), content: any(random) }],
         2 => vec![not_writable(random, bridge)],
         3 => with(wrong_type(random, bridge, entry)),
+        4 | 9 if routing => half_a_pair(random, bridge),
         4 => {
-            let entry = writable(random, |entry| matches!(entry.syntax, Syntax::Text | Syntax::Ports));
+            let entry = writable(random, bridge, |entry| matches!(entry.syntax, Syntax::Text | Syntax::Ports));
             let index = possible_index(random, bridge, entry.shape);
             wrong_length(random, entry).map(|content| bind(entry.object, &index, content)).into_iter().collect()
         }
@@ -210,24 +218,43 @@ fn at_fault(random: &mut Random, bridge: &Bridge, bindings: &[Binding]) -> Vec<B
     }
 }
 
+/// A read-only object, or one of the other device.
 fn not_writable(random: &mut Random, bridge: &Bridge) -> Binding {
     loop {
-        let entry = object(random);
-        if !entry.writable() {
+        let foreign = random.chance(40);
+        let entry = if foreign { foreign_object(random, bridge) } else { object(random, bridge) };
+        if foreign || !entry.writable() {
             let index = possible_index(random, bridge, entry.shape);
             return bind(entry.object, &index, right(random, bridge, entry));
         }
     }
 }
 
+/// The columns that make and remove rows of the bridge's growing tables.
+fn statuses(bridge: &Bridge) -> &'static [Object] {
+    match bridge.device {
+        SOURCE_ROUTING => &[Object::PairBridgeState],
+        _ => &[Object::VlanRowStatus, Object::StaticStatus],
+    }
+}
+
+/// Another column of the rows that a status makes.
+fn beside(status: Object) -> Object {
+    match status {
+        Object::VlanRowStatus => Object::VlanName,
+        Object::StaticStatus => Object::StaticAllowedToGoTo,
+        _ => Object::PairBridgeNum,
+    }
+}
+
 /// A row that the request removes, mostly one that stands, and another column of it.
 fn removed_and_written(random: &mut Random, bridge: &Bridge) -> Vec<Binding> {
-    let status = random.pick(&[Object::VlanRowStatus, Object::StaticStatus]);
-    let beside = random.chance(20);
-    let index = some_row(random, bridge, status, beside);
+    let status = random.pick(statuses(bridge));
+    let any_row = random.chance(20);
+    let index = some_row(random, bridge, status, any_row);
     let column = match status {
-        Object::VlanRowStatus => writable(random, |entry| entry.shape == Shape::Vlan),
-        _ => type_of(Object::StaticAllowedToGoTo),
+        Object::VlanRowStatus => writable(random, bridge, |entry| entry.shape == Shape::Vlan),
+        _ => type_of(beside(status)),
     };
     vec![
         bind(status, &index, status_of(random, status, false)),
@@ -252,17 +279,21 @@ fn at_odds(random: &mut Random, bridge: &Bridge) -> Vec<Binding> {
 
 /// Many bindings on few rows and scalars, of any value: makes faults meet each other.
 pub fn crowded(random: &mut Random, bridge: &Bridge) -> Vec<Binding> {
-    let shapes = [Shape::Vlan, Shape::Vlan, Shape::Static, Shape::Port, Shape::Scalar, Shape::PortPriority];
+    let shapes: &[Shape] = match bridge.device {
+        SOURCE_ROUTING => &[Shape::Pair, Shape::Pair, Shape::Port, Shape::Scalar],
+        _ => &[Shape::Vlan, Shape::Vlan, Shape::Static, Shape::Port, Shape::Scalar, Shape::PortPriority],
+    };
     let rows: Vec<(Shape, Vec<u32>)> = (0..1 + random.below(4))
         .map(|_| {
-            let shape = random.pick(&shapes);
+            let shape = random.pick(shapes);
             (shape, possible_index(random, bridge, shape))
         })
         .collect();
     let mut bindings = Vec::new();
     for _ in 0..1 + random.below(MOST_BINDINGS) {
         let (shape, index) = random.pick(&rows);
-        let of_shape: Vec<&ObjectType> = TABLE.iter().filter(|entry| entry.shape == shape).collect();
+        let of_shape: Vec<&ObjectType> =
+            TABLE.iter().filter(|entry| entry.shape == shape && entry.is_of(bridge.device)).collect();
         let entry = random.pick(&of_shape);
         let content = match random.below(20) {
             0 => any(random),
@@ -298,25 +329,25 @@ pub fn exchange(random: &mut Random, bridge: &Bridge) -> Vec<Vec<Binding>> {
     vec![message(one, other), message(other | shared, one)]
 }
 
-/// Makes and removes rows of one table; where it is nearly full, so that 255 to 257 rows would stand afterwards.
+/// Makes and removes rows of one table; where it is nearly full, so that one row less than it can have, as many or one more
+/// would stand afterwards. A pair that is made has its bridge number, most of the time.
 pub fn at_full(random: &mut Random, bridge: &Bridge) -> Vec<Binding> {
-    let (status, column, mut rows) = if random.chance(50) {
-        (Object::VlanRowStatus, Object::VlanName, bridge.vlans.len())
-    } else {
-        (Object::StaticStatus, Object::StaticAllowedToGoTo, bridge.statics.len())
-    };
-    let wanted = MOST_ROWS + 1 - random.below(3);
+    let status = random.pick(statuses(bridge));
+    let (column, table) = (beside(status), type_of(status).table().expect("a growing table"));
+    let mut rows = bridge.rows(table);
+    let wanted = bridge.room(table) + 1 - random.below(3);
+    let columns = if status == Object::PairBridgeState { random.pick(&[100, 100, 80]) } else { 20 };
     let mut bindings = Vec::new();
     for _ in 0..1 + random.below(MOST_BINDINGS) {
         let making = random.chance(if rows < wanted { 80 } else { 30 });
         let index = some_row(random, bridge, status, making);
-        let content = status_of(random, status, making);
         let present = bridge.get(status, &index).is_some();
         rows = rows + usize::from(making && !present) - usize::from(!making && present && rows > 0);
-        add(&mut bindings, vec![bind(status, &index, content)]);
-        if making && random.chance(20) {
-            add(&mut bindings, vec![bind(column, &index, right(random, bridge, type_of(column)))]);
+        let mut group = vec![bind(status, &index, status_of(random, status, making))];
+        if making && random.chance(columns) {
+            group.push(bind(column, &index, right(random, bridge, type_of(column))));
         }
+        add(&mut bindings, group);
     }
     random.shuffle(&mut bindings);
     bindings
@@ -334,28 +365,54 @@ fn status_of(random: &mut Random, status: Object, making: bool) -> Content {
     let numbers: &[i32] = match (status, making) {
         (Object::VlanRowStatus, true) => &[4, 5],
         (Object::VlanRowStatus, false) => &[6],
+        (Object::PairBridgeState, true) => &[1, 2],
+        (Object::PairBridgeState, false) => &[3],
         (_, true) => &[3, 4, 5],
         (_, false) => &[2],
     };
     Content::Integer(random.pick(numbers))
 }
 
-/// Messages that fill a table to so many rows, 16 rows each.
-pub fn filling(random: &mut Random, bridge: &Bridge, rows: usize) -> Vec<Vec<Binding>> {
-    let of_vlans = random.chance(50);
-    let mut made: Vec<Binding> = if of_vlans {
-        let first = random.pick(&[2, 1000, 4094 - 256]);
-        let absent = (first..4095).filter(|id| !bridge.vlans.contains_key(id));
-        let missing = rows.saturating_sub(bridge.vlans.len());
-        absent.take(missing).map(|id| bind(Object::VlanRowStatus, &[id], Content::Integer(4 + id as i32 % 2))).collect()
-    } else {
-        let address = |place: u32| [0, spread(place), 7, 0, place / 256, place % 256, place % (bridge.ports + 1)];
-        let absent = (0..).map(address).filter(|index| !bridge.statics.contains_key(index));
-        let missing = rows.saturating_sub(bridge.statics.len());
-        absent.take(missing).map(|index| bind(Object::StaticStatus, &index, Content::Integer(3))).collect()
-    };
+/// Messages that fill one of the bridge's tables, but for so many rows at most, as many bindings each as there can be.
+pub fn filling(random: &mut Random, bridge: &Bridge, but: usize) -> Vec<Vec<Binding>> {
+    let status = random.pick(statuses(bridge));
+    let table = type_of(status).table().expect("a growing table");
+    let missing = (bridge.room(table) - but).saturating_sub(bridge.rows(table));
+    let mut made: Vec<Vec<Binding>> = absent_rows(random, bridge, status)
+        .take(missing)
+        .enumerate()
+        .map(|(at, index)| match status {
+            Object::VlanRowStatus => vec![bind(status, &index, Content::Integer(4 + at as i32 % 2))],
+            Object::StaticStatus => vec![bind(status, &index, Content::Integer(3))],
+            _ => vec![
+                bind(status, &index, Content::Integer(1 + at as i32 % 2)),
+                bind(beside(status), &index, Content::Integer(at as i32 % 16)),
+            ],
+        })
+        .collect();
     random.shuffle(&mut made);
-    made.chunks(MOST_BINDINGS).map(<[Binding]>::to_vec).collect()
+    made.concat().chunks(MOST_BINDINGS).map(<[Binding]>::to_vec).collect()
+}
+
+/// Rows that do not stand in the table of a status.
+fn absent_rows(random: &mut Random, bridge: &Bridge, status: Object) -> Box<dyn Iterator<Item = Vec<u32>>> {
+    let (ports, bridge) = (bridge.ports, bridge.clone());
+    let rows: Box<dyn Iterator<Item = Vec<u32>>> = match status {
+        Object::VlanRowStatus => {
+            let first = random.pick(&[2, 1000, 4094 - 256]);
+            Box::new((first..4095).map(|id| vec![id]))
+        }
+        Object::StaticStatus => {
+            let index = move |place: u32| [0, spread(place), 7, 0, place / 256, place % 256, place % (ports + 1)];
+            Box::new((0..).map(move |place| index(place).to_vec()))
+        }
+        _ => {
+            let mut pairs = all_pairs(ports);
+            random.shuffle(&mut pairs);
+            Box::new(pairs.into_iter().map(|pair| pair.to_vec()))
+        }
+    };
+    Box::new(rows.filter(move |index| bridge.get(status, index).is_none()))
 }
 
 /// Spreads the addresses of a filled table.

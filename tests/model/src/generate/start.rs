@@ -1,7 +1,8 @@
 //! Bridges that a history starts from.
 
 use super::contents::{agreeing_timers, port_set, taken_number};
-use crate::model::bridge::{Bridge, StaticRow, VlanRow, TIMERS};
+use crate::model::bridge::{Bridge, PairRow, StaticRow, VlanRow, TIMERS};
+use crate::model::names::{MOST_PAIRS, SOURCE_ROUTING, TRANSPARENT};
 use crate::random::Random;
 
 /// Numbers of ports on both sides of every octet border, and the ends.
@@ -19,6 +20,22 @@ pub fn edition(random: &mut Random) -> u32 {
     random.pick(&[1, 2])
 }
 
+pub fn device(random: &mut Random) -> u32 {
+    if random.chance(35) {
+        SOURCE_ROUTING
+    } else {
+        TRANSPARENT
+    }
+}
+
+/// A fresh bridge of any number of ports, edition and device; source-routing bridges have more often the ports that a full
+/// table of pairs needs.
+pub fn fresh(random: &mut Random) -> Bridge {
+    let (edition, device) = (edition(random), device(random));
+    let ports = if device == SOURCE_ROUTING && random.chance(40) { random.within(12, 20) } else { ports(random) };
+    Bridge::fresh(ports, edition, device, &address(random)).expect("ports, an edition, a device and an address")
+}
+
 pub fn address(random: &mut Random) -> [u8; 6] {
     random.octets(6).try_into().unwrap()
 }
@@ -26,15 +43,26 @@ pub fn address(random: &mut Random) -> [u8; 6] {
 /// Random numbers in every range, timers that belong together, and tables of few, many or all the rows they can have.
 pub fn filled(random: &mut Random, mut bridge: Bridge) -> Bridge {
     let edition = bridge.edition;
-    let (timers, _) = agreeing_timers(random, bridge.timers());
-    for (timer, number) in TIMERS.iter().zip(timers) {
-        bridge.settings.insert(*timer, vec![number]);
+    if let Some(old) = bridge.timers() {
+        let (timers, _) = agreeing_timers(random, old);
+        for (timer, number) in TIMERS.iter().zip(timers) {
+            bridge.settings.insert(*timer, vec![number]);
+        }
     }
     for (object, numbers) in bridge.settings.iter_mut().filter(|(object, _)| !TIMERS.contains(object)) {
         if random.chance(70) {
             numbers.iter_mut().for_each(|number| *number = taken_number(random, *object, edition));
         }
     }
+    if bridge.device == SOURCE_ROUTING {
+        fill_pairs(random, &mut bridge);
+    } else {
+        fill_rows(random, &mut bridge);
+    }
+    bridge
+}
+
+fn fill_rows(random: &mut Random, bridge: &mut Bridge) {
     let any = random.number() as u32;
     bridge.vlan_deletes = random.pick(&[0, 1, u32::MAX, u32::MAX - 1, 0x00FF_FFFF, any]);
     bridge.vlans.clear();
@@ -52,7 +80,23 @@ pub fn filled(random: &mut Random, mut bridge: Bridge) -> Bridge {
         let row = StaticRow { allowed: port_set(random, bridge.ports), status: random.within(3, 5) };
         bridge.statics.insert(index, row);
     }
-    bridge
+}
+
+/// Every pair of a bridge's ports.
+pub fn all_pairs(ports: u32) -> Vec<[u32; 2]> {
+    (1..=ports).flat_map(|low| (low + 1..=ports).map(move |high| [low, high])).collect()
+}
+
+fn fill_pairs(random: &mut Random, bridge: &mut Bridge) {
+    let few = random.below(10);
+    let wanted = random.pick(&[0, 1, 2, few, 30, MOST_PAIRS - 2, MOST_PAIRS - 1, MOST_PAIRS - 1, MOST_PAIRS, MOST_PAIRS]);
+    let mut pairs = all_pairs(bridge.ports);
+    if random.chance(70) {
+        random.shuffle(&mut pairs);
+    }
+    for index in pairs.into_iter().take(wanted) {
+        bridge.pairs.insert(index, PairRow { number: random.within(0, 15), state: random.within(1, 2) });
+    }
 }
 
 fn rows(random: &mut Random) -> usize {

@@ -2,7 +2,7 @@
 
 use super::bridge::Bridge;
 use super::message::{read, write_answer, Binding, Content, Kind, Refusal, LONGEST};
-use super::names::{split, BRIDGE, TABLE};
+use super::names::{split_of, BRIDGE, TABLE};
 use std::cmp::Ordering;
 
 pub const ROOM_SHORT: Refusal = Refusal::of(1);
@@ -29,7 +29,7 @@ impl Bridge {
     }
 
     pub fn get_binding(&self, name: &[u32]) -> Binding {
-        let content = match split(name) {
+        let content = match split_of(self.device, name) {
             None => Content::NoSuchObject,
             Some((found, index)) => self.get(found.object, index).unwrap_or(Content::NoSuchInstance),
         };
@@ -49,7 +49,7 @@ impl Bridge {
         };
         // Object types before the last one that is not above the name have all their instances below it.
         let from = TABLE.partition_point(|entry| entry.prefix <= below).saturating_sub(1);
-        TABLE[from..].iter().find_map(|entry| {
+        TABLE[from..].iter().filter(|entry| entry.is_of(self.device)).find_map(|entry| {
             let index = match below.strip_prefix(entry.prefix) {
                 Some(rest) => self.next_index(entry.shape, rest)?,
                 None if entry.prefix.cmp(below) == Ordering::Greater => self.next_index(entry.shape, &[])?,

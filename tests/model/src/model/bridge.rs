@@ -1,12 +1,11 @@
 //! What one bridge holds, its instances in order, and what each of them reads.
 
 use super::message::Content;
-use super::names::{can_have, type_of, Object, Shape, EDITIONS, TABLE};
+use super::names::{
+    can_have, type_of, GrowingTable, Object, Shape, DEVICES, EDITIONS, MOST_ROWS, SOURCE_ROUTING, TABLE, TRANSPARENT,
+};
 use std::collections::BTreeMap;
 use std::ops::Bound::{Excluded, Included, Unbounded};
-
-/// Rows that a growing table can have.
-pub const MOST_ROWS: usize = 256;
 
 /// The status of a static row that a reset removes.
 pub const DELETE_ON_RESET: u32 = 4;
@@ -38,17 +37,29 @@ pub struct StaticRow {
     pub status: u32,
 }
 
+/// The lower port and the higher one.
+pub type PairIndex = [u32; 2];
+
+#[derive(Clone, PartialEq, Eq, Debug)]
+pub struct PairRow {
+    pub number: u32,
+    pub state: u32,
+}
+
 #[derive(Clone, PartialEq, Eq, Debug)]
 pub struct Bridge {
     pub ports: u32,
     /// 1 old, 2 new: which priorities there are (E4).
     pub edition: u32,
+    /// 1 transparent, 2 source routing: which objects there are (E12).
+    pub device: u32,
     pub address: [u8; 6],
-    /// For each object whose instances always stand: its numbers, in the order of its instances.
+    /// For each object of the device whose instances always stand: its numbers, in the order of its instances.
     pub settings: BTreeMap<Object, Vec<u32>>,
     pub vlan_deletes: u32,
     pub vlans: BTreeMap<u32, VlanRow>,
     pub statics: BTreeMap<StaticIndex, StaticRow>,
+    pub pairs: BTreeMap<PairIndex, PairRow>,
 }
 
 /// The ports 1..N.
@@ -63,24 +74,45 @@ pub fn timers_agree([max_age, hello_time, forward_delay]: [u32; 3]) -> bool {
 
 impl Bridge {
     /// A fresh bridge; none where there is no such bridge.
-    pub fn fresh(ports: u32, edition: u32, address: &[u8]) -> Option<Bridge> {
+    pub fn fresh(ports: u32, edition: u32, device: u32, address: &[u8]) -> Option<Bridge> {
         let address = address.try_into().ok()?;
-        if !(1..=64).contains(&ports) || !EDITIONS.contains(&edition) {
+        if !(1..=64).contains(&ports) || !EDITIONS.contains(&edition) || !DEVICES.contains(&device) {
             return None;
         }
         let fresh = |object| (0..instances(object, ports)).map(move |place| fresh_value(object, place)).collect();
-        let settings = TABLE.iter().filter(|entry| entry.is_setting()).map(|entry| (entry.object, fresh(entry.object)));
+        let stored = TABLE.iter().filter(|entry| entry.is_setting() && entry.is_of(device));
         let all = all_ports(ports);
         let first = VlanRow { active: true, egress: all, untagged: all, ..VlanRow::default() };
         Some(Bridge {
             ports,
             edition,
+            device,
             address,
-            settings: settings.collect(),
+            settings: stored.map(|entry| (entry.object, fresh(entry.object))).collect(),
             vlan_deletes: 0,
-            vlans: BTreeMap::from([(1, first)]),
+            vlans: if device == TRANSPARENT { BTreeMap::from([(1, first)]) } else { BTreeMap::new() },
             statics: BTreeMap::new(),
+            pairs: BTreeMap::new(),
         })
+    }
+
+    /// A fresh bridge of the same ports, edition, device and address.
+    pub fn made_fresh(&self) -> Bridge {
+        Bridge::fresh(self.ports, self.edition, self.device, &self.address).expect("what this bridge has")
+    }
+
+    /// Rows that stand in a growing table.
+    pub fn rows(&self, table: GrowingTable) -> usize {
+        match table {
+            GrowingTable::Vlan => self.vlans.len(),
+            GrowingTable::Static => self.statics.len(),
+            GrowingTable::Pair => self.pairs.len(),
+        }
+    }
+
+    /// Rows that a growing table can have on this bridge.
+    pub fn room(&self, table: GrowingTable) -> usize {
+        table.room(self.device)
     }
 
     /// Static rows that are to be deleted on reset go; all else stays.
@@ -93,15 +125,15 @@ impl Bridge {
         self.vlans.values().filter(|row| row.active).count()
     }
 
-    /// The three timers, in the order of `TIMERS`.
-    pub fn timers(&self) -> [u32; 3] {
-        TIMERS.map(|timer| self.settings[&timer][0])
+    /// The three timers, in the order of `TIMERS`; none where the device has no timers.
+    pub fn timers(&self) -> Option<[u32; 3]> {
+        (self.device == TRANSPARENT).then(|| TIMERS.map(|timer| self.settings[&timer][0]))
     }
 
     /// What an instance holds; none where there is no such instance.
     pub fn get(&self, object: Object, index: &[u32]) -> Option<Content> {
         let shape = type_of(object).shape;
-        if !can_have(shape, self.ports, index) {
+        if !type_of(object).is_of(self.device) || !can_have(shape, self.ports, index) {
             return None;
         }
         match shape {
@@ -109,6 +141,10 @@ impl Bridge {
             Shape::Static => {
                 let index: StaticIndex = index.try_into().ok()?;
                 self.statics.get(&index).map(|row| self.static_column(object, &index, row))
+            }
+            Shape::Pair => {
+                let index: PairIndex = index.try_into().ok()?;
+                self.pairs.get(&index).map(|row| pair_column(object, &index, row))
             }
             _ => Some(self.standing(object, index)),
         }
@@ -120,7 +156,7 @@ impl Bridge {
         match object {
             Object::BridgeAddress => Content::String(self.address.to_vec()),
             Object::NumPorts => integer(self.ports),
-            Object::Type => integer(2),
+            Object::Type => integer(if self.device == SOURCE_ROUTING { 3 } else { 2 }),
             Object::Port | Object::IfIndex | Object::StpPort => integer(index[0]),
             Object::NumTrafficClasses => integer(8),
             Object::VlanVersionNumber => integer(1),
@@ -175,6 +211,10 @@ impl Bridge {
                 let above = static_bound(rest);
                 self.statics.range((above, Unbounded)).next().map(|(index, _)| index.to_vec())
             }
+            Shape::Pair => {
+                let above = |index: &&PairIndex| index[..] > *rest;
+                self.pairs.keys().find(above).map(|index| index.to_vec())
+            }
         }
     }
 
@@ -187,6 +227,16 @@ impl Bridge {
         };
         (port <= self.ports).then(|| vec![port, priority])
     }
+}
+
+fn pair_column(object: Object, index: &PairIndex, row: &PairRow) -> Content {
+    let number = match object {
+        Object::PairLowPort => index[0],
+        Object::PairHighPort => index[1],
+        Object::PairBridgeNum => row.number,
+        _ => row.state,
+    };
+    Content::Integer(number as i32)
 }
 
 /// The static indexes above the rest of a name: those that it begins too, but not the one that it is.
@@ -229,6 +279,7 @@ fn fresh_value(object: Object, place: usize) -> u32 {
         Object::StpPortPriority => 128,
         Object::StpPortEnable => 1,
         Object::StpPortPathCost => 100,
+        Object::LargestFrame => 1470,
         Object::AgingTime => 300,
         Object::DefaultUserPriority => 0,
         Object::RegenUserPriority => priority as u32,

@@ -19,8 +19,8 @@ fn returned(result: Result<u32, Refusal>) -> Returned {
     }
 }
 
-pub fn set_up(block: &mut [u8], ports: u32, edition: u32, address: &[u8]) -> Returned {
-    returned(match Bridge::fresh(ports, edition, address) {
+pub fn set_up(block: &mut [u8], ports: u32, edition: u32, device: u32, address: &[u8]) -> Returned {
+    returned(match Bridge::fresh(ports, edition, device, address) {
         Some(bridge) if block.len() == BLOCK => {
             block.copy_from_slice(&bridge.image());
             Ok(0)

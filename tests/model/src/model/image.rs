@@ -1,7 +1,7 @@
 //! The 32,768 octets of a block, as docs/LAYOUT.md tells.
 
-use super::bridge::{all_ports, instances, timers_agree, Bridge, PortSet, StaticRow, VlanRow, MOST_ROWS};
-use super::names::{can_have, takes, Object, Shape, EDITIONS};
+use super::bridge::{all_ports, instances, timers_agree, Bridge, PairIndex, PairRow, PortSet, StaticRow, VlanRow};
+use super::names::{can_have, takes, type_of, GrowingTable, Object, Shape, DEVICES, EDITIONS, TRANSPARENT};
 use std::collections::BTreeMap;
 
 pub const BLOCK: usize = 32768;
@@ -12,29 +12,42 @@ pub const STATIC_COUNT: usize = 12;
 pub const ADDRESS: usize = 16;
 pub const VLAN_TOTAL: usize = 22;
 pub const EDITION: usize = 24;
+pub const DEVICE: usize = 25;
+pub const PAIR_COUNT: usize = 28;
+pub const CELLS_START: usize = 32;
 pub const MAX_AGE: usize = 36;
 pub const VLAN_ROWS: usize = 6196;
 pub const VLAN_ROW: usize = 60;
 pub const STATIC_ROWS: usize = 21556;
 pub const STATIC_ROW: usize = 16;
+pub const PAIR_ROWS: usize = 25652;
+pub const PAIR_ROW: usize = 4;
+/// Behind the last row that a table can have, all octets are 0.
+pub const ROWS_END: usize = 25908;
 
 /// Where the cells of each object start, 4 octets for each instance.
-pub const CELLS: [(Object, usize); 14] = [
-    (Object::StpPriority, 32),
+pub const CELLS: [(Object, usize); 15] = [
+    (Object::StpPriority, CELLS_START),
     (Object::BridgeMaxAge, MAX_AGE),
     (Object::BridgeHelloTime, 40),
     (Object::BridgeForwardDelay, 44),
     (Object::StpPortPriority, 48),
     (Object::StpPortEnable, 304),
     (Object::StpPortPathCost, 560),
-    (Object::AgingTime, 816),
-    (Object::DefaultUserPriority, 820),
-    (Object::RegenUserPriority, 1076),
-    (Object::TrafficClass, 3124),
-    (Object::Pvid, 5172),
-    (Object::AcceptableFrameTypes, 5428),
-    (Object::IngressFiltering, 5684),
+    (Object::LargestFrame, 816),
+    (Object::AgingTime, 1072),
+    (Object::DefaultUserPriority, 1076),
+    (Object::RegenUserPriority, 1332),
+    (Object::TrafficClass, 3380),
+    (Object::Pvid, 5428),
+    (Object::AcceptableFrameTypes, 5684),
+    (Object::IngressFiltering, 5940),
 ];
+
+/// The cells of the objects that a device has.
+fn cells_of(device: u32) -> impl Iterator<Item = (Object, usize)> {
+    CELLS.into_iter().filter(move |(object, _)| type_of(*object).is_of(device))
+}
 
 impl Bridge {
     /// The block that holds this bridge.
@@ -47,7 +60,9 @@ impl Bridge {
         put(&mut block, ADDRESS, &self.address);
         put(&mut block, VLAN_TOTAL, &(self.active_vlans() as u16).to_be_bytes());
         put(&mut block, EDITION, &[self.edition as u8]);
-        for (object, start) in CELLS {
+        put(&mut block, DEVICE, &[self.device as u8]);
+        put(&mut block, PAIR_COUNT, &(self.pairs.len() as u32).to_be_bytes());
+        for (object, start) in cells_of(self.device) {
             for (place, number) in self.settings[&object].iter().enumerate() {
                 put(&mut block, start + 4 * place, &number.to_be_bytes());
             }
@@ -61,6 +76,10 @@ impl Bridge {
             put(&mut block, start, &octets);
             put(&mut block, start + 7, &[row.status as u8]);
             put(&mut block, start + 8, &row.allowed.to_be_bytes());
+        }
+        for (place, ([low, high], row)) in self.pairs.iter().enumerate() {
+            let octets = [*low, *high, row.number, row.state].map(|number| number as u8);
+            put(&mut block, PAIR_ROWS + PAIR_ROW * place, &octets);
         }
         block
     }
@@ -78,24 +97,34 @@ impl Bridge {
         if !EDITIONS.contains(&edition) {
             return None;
         }
+        let device = u32::from(block[DEVICE]);
+        if !DEVICES.contains(&device) {
+            return None;
+        }
         let mut settings = BTreeMap::new();
-        for (object, start) in CELLS {
+        for (object, start) in cells_of(device) {
             settings.insert(object, cells(block, object, start, ports, edition)?);
         }
         let bridge = Bridge {
             ports,
             edition,
+            device,
             address: block[ADDRESS..ADDRESS + 6].try_into().unwrap(),
             settings,
             vlan_deletes: number(block, DELETES),
-            vlans: vlan_rows(block, ports)?,
-            statics: static_rows(block, ports)?,
+            vlans: vlan_rows(block, ports, device)?,
+            statics: static_rows(block, ports, device)?,
+            pairs: pair_rows(block, ports, device)?,
         };
-        if !timers_agree(bridge.timers()) {
+        // VlanNumDeletes is the transparent device's.
+        if device != TRANSPARENT && bridge.vlan_deletes != 0 {
             return None;
         }
-        // Octets that hold nothing must be 0, and the stored total (E5) must be that of the active rows: the one image of
-        // this content shows both.
+        if bridge.timers().is_some_and(|timers| !timers_agree(timers)) {
+            return None;
+        }
+        // Octets that hold nothing of this device must be 0, and the stored total (E5) must be that of the active rows: the
+        // one image of this content shows both.
         (bridge.image() == block).then_some(bridge)
     }
 }
@@ -123,13 +152,15 @@ fn cells(block: &[u8], object: Object, start: usize, ports: u32, edition: u32) -
     (0..instances(object, ports)).map(|place| Some(number(block, start + 4 * place)).filter(taken)).collect()
 }
 
-fn row_count(block: &[u8], start: usize) -> Option<usize> {
-    usize::try_from(number(block, start)).ok().filter(|count| *count <= MOST_ROWS)
+/// How many rows a table says to have; none where the device has no room for so many.
+fn row_count(block: &[u8], start: usize, table: GrowingTable, device: u32) -> Option<usize> {
+    usize::try_from(number(block, start)).ok().filter(|count| *count <= table.room(device))
 }
 
-fn vlan_rows(block: &[u8], ports: u32) -> Option<BTreeMap<u32, VlanRow>> {
+fn vlan_rows(block: &[u8], ports: u32, device: u32) -> Option<BTreeMap<u32, VlanRow>> {
     let mut rows = BTreeMap::new();
-    for octets in block[VLAN_ROWS..].chunks_exact(VLAN_ROW).take(row_count(block, VLAN_COUNT)?) {
+    let count = row_count(block, VLAN_COUNT, GrowingTable::Vlan, device)?;
+    for octets in block[VLAN_ROWS..].chunks_exact(VLAN_ROW).take(count) {
         let id = u32::from(octets[0]) * 256 + u32::from(octets[1]);
         let ascending = rows.last_key_value().is_none_or(|(last, _)| *last < id);
         if !ascending || !can_have(Shape::Vlan, ports, &[id]) || !matches!(octets[2], 1 | 2) || octets[3] > 32 {
@@ -150,15 +181,30 @@ fn vlan_rows(block: &[u8], ports: u32) -> Option<BTreeMap<u32, VlanRow>> {
     Some(rows)
 }
 
-fn static_rows(block: &[u8], ports: u32) -> Option<BTreeMap<[u32; 7], StaticRow>> {
+fn static_rows(block: &[u8], ports: u32, device: u32) -> Option<BTreeMap<[u32; 7], StaticRow>> {
     let mut rows = BTreeMap::new();
-    for octets in block[STATIC_ROWS..].chunks_exact(STATIC_ROW).take(row_count(block, STATIC_COUNT)?) {
+    let count = row_count(block, STATIC_COUNT, GrowingTable::Static, device)?;
+    for octets in block[STATIC_ROWS..].chunks_exact(STATIC_ROW).take(count) {
         let index: [u32; 7] = std::array::from_fn(|place| u32::from(octets[place]));
         let ascending = rows.last_key_value().is_none_or(|(last, _)| *last < index);
         if !ascending || !can_have(Shape::Static, ports, &index) || !matches!(octets[7], 3..=5) {
             return None;
         }
         rows.insert(index, StaticRow { allowed: port_set(octets, 8, ports)?, status: u32::from(octets[7]) });
+    }
+    Some(rows)
+}
+
+fn pair_rows(block: &[u8], ports: u32, device: u32) -> Option<BTreeMap<PairIndex, PairRow>> {
+    let mut rows = BTreeMap::new();
+    let count = row_count(block, PAIR_COUNT, GrowingTable::Pair, device)?;
+    for octets in block[PAIR_ROWS..].chunks_exact(PAIR_ROW).take(count) {
+        let [low, high, number, state] = std::array::from_fn(|place| u32::from(octets[place]));
+        let ascending = rows.last_key_value().is_none_or(|(last, _)| *last < [low, high]);
+        if !ascending || !can_have(Shape::Pair, ports, &[low, high]) || number > 15 || !matches!(state, 1 | 2) {
+            return None;
+        }
+        rows.insert([low, high], PairRow { number, state });
     }
     Some(rows)
 }

@@ -18,6 +18,11 @@ pub enum Object {
     StpPortPriority,
     StpPortEnable,
     StpPortPathCost,
+    LargestFrame,
+    PairLowPort,
+    PairHighPort,
+    PairBridgeNum,
+    PairBridgeState,
     AgingTime,
     StaticAddress,
     StaticReceivePort,
@@ -50,6 +55,7 @@ pub enum Shape {
     PortPriority,
     Vlan,
     Static,
+    Pair,
 }
 
 /// Type and range of an object's contents.
@@ -63,7 +69,39 @@ pub enum Syntax {
     Ports,
     RowStatus,
     StaticStatus,
+    /// An integer that is one of `LARGEST_FRAMES`.
+    Frame,
+    /// An integer: enabled, disabled, or invalid.
+    PairState,
 }
+
+/// A table whose rows come and go.
+#[derive(Clone, Copy, PartialEq, Eq, PartialOrd, Ord, Debug)]
+pub enum GrowingTable {
+    Vlan,
+    Static,
+    Pair,
+}
+
+/// In the order in which a check of a batch judges them.
+pub const GROWING: [GrowingTable; 3] = [GrowingTable::Vlan, GrowingTable::Static, GrowingTable::Pair];
+
+impl GrowingTable {
+    /// Rows that the table can have on a device; none where the device has no such table.
+    pub fn room(self, device: u32) -> usize {
+        match (self, device) {
+            (GrowingTable::Pair, SOURCE_ROUTING) => MOST_PAIRS,
+            (GrowingTable::Vlan | GrowingTable::Static, TRANSPARENT) => MOST_ROWS,
+            _ => 0,
+        }
+    }
+}
+
+/// Rows that the VLAN table and the static table can have.
+pub const MOST_ROWS: usize = 256;
+
+/// Port pairs that a source-routing bridge can have.
+pub const MOST_PAIRS: usize = 64;
 
 #[derive(Clone, Copy, PartialEq, Eq, Debug)]
 pub enum Access {
@@ -89,11 +127,11 @@ use Access::{ReadOnly, Writable};
 use Shape::{PortPriority, Scalar};
 use Syntax::{Integer, Unsigned};
 
-/// All object types, ascending by name. A read-only number has the range of what it can be.
-pub const TABLE: [ObjectType; 35] = [
+/// All object types of both devices, ascending by name. A read-only number has the range of what it can be.
+pub const TABLE: [ObjectType; 40] = [
     row(Object::BridgeAddress, &[1, 1], Scalar, Syntax::Address, ReadOnly),
     row(Object::NumPorts, &[1, 2], Scalar, Integer(1, 64), ReadOnly),
-    row(Object::Type, &[1, 3], Scalar, Integer(2, 2), ReadOnly),
+    row(Object::Type, &[1, 3], Scalar, Integer(2, 3), ReadOnly),
     row(Object::Port, &[1, 4, 1, 1], Shape::Port, Integer(1, 64), ReadOnly),
     row(Object::IfIndex, &[1, 4, 1, 2], Shape::Port, Integer(1, 64), ReadOnly),
     row(Object::StpPriority, &[2, 2], Scalar, Integer(0, 65535), Writable),
@@ -104,6 +142,11 @@ pub const TABLE: [ObjectType; 35] = [
     row(Object::StpPortPriority, &[2, 15, 1, 2], Shape::Port, Integer(0, 255), Writable),
     row(Object::StpPortEnable, &[2, 15, 1, 4], Shape::Port, Integer(1, 2), Writable),
     row(Object::StpPortPathCost, &[2, 15, 1, 5], Shape::Port, Integer(1, 65535), Writable),
+    row(Object::LargestFrame, &[3, 1, 1, 6], Shape::Port, Syntax::Frame, Writable),
+    row(Object::PairLowPort, &[3, 5, 1, 1], Shape::Pair, Integer(1, 64), ReadOnly),
+    row(Object::PairHighPort, &[3, 5, 1, 2], Shape::Pair, Integer(1, 64), ReadOnly),
+    row(Object::PairBridgeNum, &[3, 5, 1, 3], Shape::Pair, Integer(0, 15), Writable),
+    row(Object::PairBridgeState, &[3, 5, 1, 4], Shape::Pair, Syntax::PairState, Writable),
     row(Object::AgingTime, &[4, 2], Scalar, Integer(10, 1_000_000), Writable),
     row(Object::StaticAddress, &[5, 1, 1, 1], Shape::Static, Syntax::Address, ReadOnly),
     row(Object::StaticReceivePort, &[5, 1, 1, 2], Shape::Static, Integer(0, 64), ReadOnly),
@@ -128,14 +171,45 @@ pub const TABLE: [ObjectType; 35] = [
     row(Object::IngressFiltering, &[7, 1, 4, 5, 1, 3], Shape::Port, Integer(1, 2), Writable),
 ];
 
+/// What a port's largest frame can be: the 64 numbers that document 004 lists under dot1dSrPortLargestFrame.
+pub const LARGEST_FRAMES: [u32; 64] = [
+    516, 635, 754, 873, 993, 1112, 1231, 1350, 1470, 1542, 1615, 1688, 1761, 1833, 1906, 1979, 2052, 2345, 2638, 2932,
+    3225, 3518, 3812, 4105, 4399, 4865, 5331, 5798, 6264, 6730, 7197, 7663, 8130, 8539, 8949, 9358, 9768, 10178, 10587,
+    10997, 11407, 12199, 12992, 13785, 14578, 15370, 16163, 16956, 17749, 20730, 23711, 26693, 29674, 32655, 35637,
+    38618, 41600, 44591, 47583, 50575, 53567, 56559, 59551, 65535,
+];
+
+/// The devices that a bridge can be (E12).
+pub const DEVICES: std::ops::RangeInclusive<u32> = 1..=2;
+pub const TRANSPARENT: u32 = 1;
+pub const SOURCE_ROUTING: u32 = 2;
+
 impl ObjectType {
     pub fn writable(&self) -> bool {
         self.access == Writable
     }
 
-    /// The rows of this object's table come and go.
+    /// Whether a device has this object: the source-routing device has those under 1 and those of its own, and no others.
+    pub fn is_of(&self, device: u32) -> bool {
+        match self.prefix[0] {
+            1 => true,
+            3 => device == SOURCE_ROUTING,
+            _ => device == TRANSPARENT,
+        }
+    }
+
+    /// The growing table that this object is a column of: its rows come and go.
+    pub fn table(&self) -> Option<GrowingTable> {
+        match self.shape {
+            Shape::Vlan => Some(GrowingTable::Vlan),
+            Shape::Static => Some(GrowingTable::Static),
+            Shape::Pair => Some(GrowingTable::Pair),
+            _ => None,
+        }
+    }
+
     pub fn grows(&self) -> bool {
-        matches!(self.shape, Shape::Vlan | Shape::Static)
+        self.table().is_some()
     }
 
     /// One stored number for each instance, and the instances always stand.
@@ -152,10 +226,12 @@ impl ObjectType {
 /// The editions of the priority rule (E4).
 pub const EDITIONS: std::ops::RangeInclusive<u32> = 1..=2;
 
-/// Whether an object whose instances always stand takes a number: its range, and in edition 2 the steps of priorities.
+/// Whether an object takes a number: its range, in edition 2 the steps of priorities, and the frames that there are.
 pub fn takes(object: Object, edition: u32, number: u32) -> bool {
-    let (Syntax::Integer(low, high) | Syntax::Unsigned(low, high)) = type_of(object).syntax else {
-        unreachable!("{object:?} has no numbers")
+    let (low, high) = match type_of(object).syntax {
+        Syntax::Integer(low, high) | Syntax::Unsigned(low, high) => (low, high),
+        Syntax::Frame => return LARGEST_FRAMES.contains(&number),
+        _ => unreachable!("{object:?} has no numbers"),
     };
     match (edition, object) {
         (2, Object::StpPriority) => number <= 61440 && number % 4096 == 0,
@@ -169,13 +245,18 @@ pub fn type_of(object: Object) -> &'static ObjectType {
     &TABLE[object as usize]
 }
 
-/// The object type that is a prefix of the name, and the rest of the name.
+/// The object type that is a prefix of the name, and the rest of the name, whatever the device.
 pub fn split(name: &[u32]) -> Option<(&'static ObjectType, &[u32])> {
     let below = name.strip_prefix(&BRIDGE)?;
     // No prefix is a prefix of another one, so only the last that is not above the name can be one of the name.
     let above = TABLE.partition_point(|entry| entry.prefix <= below);
     let candidate = TABLE[..above].last()?;
     Some((candidate, below.strip_prefix(candidate.prefix)?))
+}
+
+/// The same among the object types that a device has.
+pub fn split_of(device: u32, name: &[u32]) -> Option<(&'static ObjectType, &[u32])> {
+    split(name).filter(|(found, _)| found.is_of(device))
 }
 
 /// Whether a bridge of so many ports can have an instance or a row of this index.
@@ -185,6 +266,7 @@ pub fn can_have(shape: Shape, ports: u32, index: &[u32]) -> bool {
         (Shape::Port, [port]) => (1..=ports).contains(port),
         (Shape::PortPriority, [port, priority]) => (1..=ports).contains(port) && *priority <= 7,
         (Shape::Vlan, [id]) => (1..=4094).contains(id),
+        (Shape::Pair, [low, high]) => 1 <= *low && low < high && *high <= ports,
         (Shape::Static, [address @ .., receive_port]) => {
             address.len() == 6 && address.iter().all(|octet| *octet <= 255) && *receive_port <= ports
         }

@@ -1,14 +1,17 @@
 //! A set message: each binding's first fault, and what an accepted set changes.
 
 use super::bridge::{
-    all_ports, place, timers_agree, Bridge, PortSet, StaticIndex, StaticRow, VlanRow, MOST_ROWS, TIMERS,
+    all_ports, place, timers_agree, Bridge, PairIndex, PairRow, PortSet, StaticIndex, StaticRow, VlanRow, TIMERS,
 };
 use super::message::{Binding, Content};
-use super::names::{can_have, split, takes, Object, ObjectType, Shape, Syntax};
+use super::names::{can_have, split_of, takes, GrowingTable, Object, ObjectType, Shape, Syntax, GROWING};
 use std::collections::BTreeMap;
 
 /// The VLAN whose made row has all ports in Untagged.
 const DEFAULT_VLAN: u32 = 1;
+
+/// The state that removes a port pair.
+const INVALID: u32 = 3;
 
 pub type Fault = u8;
 pub const GEN_ERR: Fault = 5;
@@ -34,6 +37,7 @@ enum Value {
 enum Row {
     Vlan(u32),
     Static(StaticIndex),
+    Pair(PairIndex),
 }
 
 /// A binding that is free of the faults 5, 17, 7, 8, 10 and 11.
@@ -50,12 +54,13 @@ struct RowPlan {
     present: bool,
     status: Option<u32>,
     shares_port: bool,
+    /// A port pair whose bridge number is bound.
+    numbered: bool,
 }
 
 struct Plan {
     rows: BTreeMap<Row, RowPlan>,
-    vlans_overfull: bool,
-    statics_overfull: bool,
+    overfull: Vec<GrowingTable>,
     /// The three timers as all clean bindings together leave them break a rule (E6).
     timers_at_odds: bool,
 }
@@ -85,7 +90,8 @@ impl Bridge {
         if bindings[..at].iter().any(|earlier| earlier.name == *name) {
             return Err(GEN_ERR);
         }
-        let (found, index) = split(name).filter(|(found, _)| found.writable()).ok_or(NOT_WRITABLE)?;
+        let (found, index) =
+            split_of(self.device, name).filter(|(found, _)| found.writable()).ok_or(NOT_WRITABLE)?;
         let value = self.judge_value(found, content)?;
         if !can_have(found.shape, self.ports, index) {
             return Err(NO_CREATION);
@@ -93,6 +99,7 @@ impl Bridge {
         let row = match found.shape {
             Shape::Vlan => Some(Row::Vlan(index[0])),
             Shape::Static => index.try_into().ok().map(Row::Static),
+            Shape::Pair => index.try_into().ok().map(Row::Pair),
             _ => None,
         };
         Ok(Write { object: found.object, index: index.to_vec(), row, value })
@@ -110,11 +117,14 @@ impl Bridge {
     /// Type, then length, then value.
     fn judge_value(&self, found: &ObjectType, content: &Content) -> Result<Value, Fault> {
         match (found.syntax, content) {
-            (Syntax::Integer(..), Content::Integer(number)) => self.judge_number(found.object, (*number).into()),
+            (Syntax::Integer(..) | Syntax::Frame, Content::Integer(number)) => {
+                self.judge_number(found.object, (*number).into())
+            }
             (Syntax::Unsigned(..), Content::Unsigned(number)) => self.judge_number(found.object, (*number).into()),
             (Syntax::RowStatus, Content::Integer(3)) => Err(WRONG_VALUE),
             (Syntax::RowStatus, Content::Integer(status)) => number_within((*status).into(), 1, 6),
             (Syntax::StaticStatus, Content::Integer(status)) => number_within((*status).into(), 2, 5),
+            (Syntax::PairState, Content::Integer(state)) => number_within((*state).into(), 1, 3),
             (Syntax::Text, Content::String(octets)) if octets.len() > 32 => Err(WRONG_LENGTH),
             (Syntax::Text, Content::String(octets)) => Ok(Value::Text(octets.clone())),
             (Syntax::Ports, Content::String(octets)) => self.judge_ports(octets),
@@ -145,28 +155,39 @@ impl Bridge {
             if let (true, Value::Number(status)) = (is_status(write.object), &write.value) {
                 plan.status = Some(*status);
             }
+            plan.numbered |= write.object == Object::PairBridgeNum;
             if let Row::Vlan(id) = row {
                 plan.shares_port = self.resulting_row_shares(id, clean);
             }
         }
-        let vlans_overfull = overfull(self.vlans.len(), &rows, |row| matches!(row, Row::Vlan(_)));
-        let statics_overfull = overfull(self.statics.len(), &rows, |row| matches!(row, Row::Static(_)));
-        let timers_at_odds = !timers_agree(self.resulting_timers(clean));
-        Plan { rows, vlans_overfull, statics_overfull, timers_at_odds }
+        let overfull = GROWING.into_iter().filter(|table| self.overfull(*table, &rows)).collect();
+        let timers_at_odds = self.resulting_timers(clean).is_some_and(|timers| !timers_agree(timers));
+        Plan { rows, overfull, timers_at_odds }
     }
 
-    /// The timers as all clean bindings together leave them.
-    fn resulting_timers(&self, clean: &[&Write]) -> [u32; 3] {
-        TIMERS.map(|timer| {
-            let written = clean.iter().find(|write| write.object == timer);
-            written.map_or(self.settings[&timer][0], |write| write.value.number())
-        })
+    /// Live + made - removed would pass the rows that one table can have.
+    fn overfull(&self, table: GrowingTable, rows: &BTreeMap<Row, RowPlan>) -> bool {
+        let of_table = || rows.iter().filter(|(row, _)| row.table() == table);
+        let made = of_table().filter(|(row, plan)| plan.made(row)).count();
+        let removed = of_table().filter(|(row, plan)| plan.removed(row)).count();
+        self.rows(table) + made - removed > self.room(table)
+    }
+
+    /// The timers as all clean bindings together leave them; none where the device has no timers.
+    fn resulting_timers(&self, clean: &[&Write]) -> Option<[u32; 3]> {
+        let mut timers = self.timers()?;
+        for (timer, number) in TIMERS.iter().zip(&mut timers) {
+            let written = clean.iter().find(|write| write.object == *timer);
+            *number = written.map_or(*number, |write| write.value.number());
+        }
+        Some(timers)
     }
 
     fn present(&self, row: Row) -> bool {
         match row {
             Row::Vlan(id) => self.vlans.contains_key(&id),
             Row::Static(index) => self.statics.contains_key(&index),
+            Row::Pair(index) => self.pairs.contains_key(&index),
         }
     }
 
@@ -210,6 +231,9 @@ impl Bridge {
             Row::Static(index) => {
                 self.statics.insert(index, StaticRow { allowed: all_ports(self.ports), status: 3 });
             }
+            Row::Pair(index) => {
+                self.pairs.insert(index, PairRow { number: 0, state: 1 });
+            }
         }
     }
 
@@ -221,6 +245,7 @@ impl Bridge {
             }
             Some(Row::Vlan(id)) => self.write_vlan(id, write),
             Some(Row::Static(index)) => self.write_static(index, write),
+            Some(Row::Pair(index)) => self.write_pair(index, write),
         }
     }
 
@@ -250,6 +275,29 @@ impl Bridge {
             value => row.status = value.number(),
         }
     }
+
+    fn write_pair(&mut self, index: PairIndex, write: &Write) {
+        let number = write.value.number();
+        if write.object == Object::PairBridgeState && number == INVALID {
+            self.pairs.remove(&index);
+            return;
+        }
+        let row = self.pairs.get_mut(&index).expect("present or made");
+        match write.object {
+            Object::PairBridgeNum => row.number = number,
+            _ => row.state = number,
+        }
+    }
+}
+
+impl Row {
+    fn table(&self) -> GrowingTable {
+        match self {
+            Row::Vlan(_) => GrowingTable::Vlan,
+            Row::Static(_) => GrowingTable::Static,
+            Row::Pair(_) => GrowingTable::Pair,
+        }
+    }
 }
 
 impl Value {
@@ -274,6 +322,7 @@ impl RowPlan {
         let making = match row {
             Row::Vlan(_) => matches!(self.status, Some(4 | 5)),
             Row::Static(_) => matches!(self.status, Some(3..=5)),
+            Row::Pair(_) => matches!(self.status, Some(1 | 2)),
         };
         making && !self.present
     }
@@ -283,6 +332,7 @@ impl RowPlan {
         let removing = match row {
             Row::Vlan(_) => self.status == Some(6),
             Row::Static(_) => self.status == Some(2),
+            Row::Pair(_) => self.status == Some(INVALID),
         };
         removing && self.present
     }
@@ -307,21 +357,22 @@ impl Plan {
     }
 
     fn fault_of_status(&self, row: &Row, plan: &RowPlan, status: u32) -> Option<Fault> {
-        let (at_odds, overfull) = match (row, status) {
-            (Row::Vlan(_), 4 | 5) => (plan.present, self.vlans_overfull),
-            (Row::Vlan(_), 1 | 2) => (!plan.present, false),
-            (Row::Static(_), 3..=5) => (false, self.statics_overfull && !plan.present),
-            _ => (false, false),
+        let at_odds = match (row, status) {
+            (Row::Vlan(_), 4 | 5) => plan.present,
+            (Row::Vlan(_), 1 | 2) => !plan.present,
+            // A pair that is made needs its bridge number; without it the pair counts as made all the same.
+            (Row::Pair(_), _) => plan.made(row) && !plan.numbered,
+            _ => false,
         };
         if at_odds {
             return Some(INCONSISTENT_VALUE);
         }
-        overfull.then_some(RESOURCE_UNAVAILABLE)
+        (plan.made(row) && self.overfull.contains(&row.table())).then_some(RESOURCE_UNAVAILABLE)
     }
 }
 
 fn is_status(object: Object) -> bool {
-    matches!(object, Object::VlanRowStatus | Object::StaticStatus)
+    matches!(object, Object::VlanRowStatus | Object::StaticStatus | Object::PairBridgeState)
 }
 
 fn number_within(number: i64, low: u32, high: u32) -> Result<Value, Fault> {
@@ -329,11 +380,4 @@ fn number_within(number: i64, low: u32, high: u32) -> Result<Value, Fault> {
         Ok(number) if (low..=high).contains(&number) => Ok(Value::Number(number)),
         _ => Err(WRONG_VALUE),
     }
-}
-
-/// Live + made - removed would pass the rows that one table can have.
-fn overfull(live: usize, rows: &BTreeMap<Row, RowPlan>, of_table: fn(&Row) -> bool) -> bool {
-    let made = rows.iter().filter(|(row, plan)| of_table(row) && plan.made(row)).count();
-    let removed = rows.iter().filter(|(row, plan)| of_table(row) && plan.removed(row)).count();
-    live + made - removed > MOST_ROWS
 }

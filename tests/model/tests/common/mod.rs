@@ -8,9 +8,14 @@ use refbridge_model::Bridge;
 pub const ROOM: usize = 1472;
 pub const ADDRESS: [u8; 6] = [0, 0x11, 0x22, 0x33, 0x44, 0x55];
 
-/// Of edition 1.
+/// Of edition 1 and device 1.
 pub fn fresh(ports: u32) -> Bridge {
-    Bridge::fresh(ports, 1, &ADDRESS).unwrap()
+    Bridge::fresh(ports, 1, 1, &ADDRESS).unwrap()
+}
+
+/// A source-routing bridge, device 2.
+pub fn routing(ports: u32) -> Bridge {
+    Bridge::fresh(ports, 1, 2, &ADDRESS).unwrap()
 }
 
 pub fn name(text: &str) -> Vec<u32> {
