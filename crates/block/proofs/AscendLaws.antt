@@ -19,9 +19,10 @@ use Rattle.octets.proofs.BoolLaws.{both}
 use Rattle.names.specs.Index.{canHave, index}
 use Rattle.names.specs.declared.Shape.{Shape}
 use Rattle.block.specs.Image.{staticAt, contentOf}
+use Rattle.block.specs.Tables.{static}
 use Rattle.block.specs.Valid.{every, portSet, staticOk, staticStatus, rowOk, rowsOk, ascends}
 use Rattle.block.specs.declared.rows.StaticRow.{StaticRow}
-use Rattle.block.proofs.ReadLaws.{static-is}
+use Rattle.block.proofs.ReadLaws.{row-is}
 
 mixed : (l c t e a : Bool) → ((l && c) && (t && (e && a))) ≡ (((c && t) && e) && (l && a))
 mixed true true true true a = refl
@@ -80,11 +81,11 @@ ascends-end low es i h = rw (drop-of-length-le es h)
 module _ (b : List ℕ) (i : ℕ) (d : ℕ × StaticRow) (h : i < beAt b 12 4) where
   pub port-is : Octets b → getD (contentOf b .statics) i d .0 % 256 ≡ getD b (21556 + i * 16 + 6) 0
   unfolding staticAt
-  port-is o = rw (static-is b i d h, beAt-more b (21556 + i * 16) 6) (digits-mod (beAt b (21556 + i * 16) 6) {m = 256} (o (21556 + i * 16 + 6)))
+  port-is o = rw (row-is b static i d h, beAt-more b (21556 + i * 16) 6) (digits-mod (beAt b (21556 + i * 16) 6) {m = 256} (o (21556 + i * 16 + 6)))
 
   pub word-is : beAt b (21556 + i * 16) 8 ≡ getD (contentOf b .statics) i d .0 * 256 + getD (contentOf b .statics) i d .1 .status
   unfolding staticAt
-  word-is = rw (static-is b i d h, beAt-more b (21556 + i * 16) 7, beAt-one b (21556 + i * 16 + 7))
+  word-is = rw (row-is b static i d h, beAt-more b (21556 + i * 16) 7, beAt-one b (21556 + i * 16 + 7))
 
 -- the least key behind a word: 0 is behind none, and a word with a status of 3 to 5 is below the word of the next key
 abbrev pub keyBehind : ℕ → ℕ

@@ -66,7 +66,7 @@ eight-of b p =
     next i = ap (λ (q : ℕ). getD b q 0) (omega arith)
 
 -- cell k and the next one
-pub two-cells : (b : List ℕ) (k : ℕ) → Octets b → k + 2 ≤ 1477
+pub two-cells : (b : List ℕ) (k : ℕ) → Octets b → k + 2 ≤ 1541
     → eqb (bitAnd (beAt b (32 + k * 4) 8) aboveSeven) 0 ≡ (isSmall (getD (contentOf b .cells) k 0) && isSmall (getD (contentOf b .cells) (k + 1) 0))
 two-cells b k o h =
     let p : 32 + k * 4 + 4 ≡ 32 + (k + 1) * 4 = omega arith in

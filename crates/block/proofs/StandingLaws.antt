@@ -11,20 +11,22 @@ use Rattle.octets.proofs.NumberLaws.{Octets, beAt-left, beAt-lt}
 use Rattle.block.specs.Layout.{blockSize}
 use Rattle.block.specs.Image.{contentOf}
 use Rattle.block.specs.Lookup.{Sized, keysOf}
-use Rattle.block.specs.Tables.{Table, vlan, static, rowsOf, most, standing, uncounted}
+use Rattle.block.specs.Tables.{Table, vlan, static, pair, rowsOf, most, standing, deviceOf, roomIn}
 use Rattle.block.proofs.RowLaws.{getD-rowsAt, row-inside}
 use Rattle.block.proofs.HalvingLaws.{keysAt}
-use Rattle.block.proofs.ReadLaws.{many-vlans, many-statics, vlan-keys, static-keys}
+use Rattle.block.proofs.ReadLaws.{many-in, keys-are}
 
 -- a table's count stands before its rows, and these in the block; a key stands in its row, and has at most eight octets
 pub stands : (t : Table) → (standing t .count + 4 ≤ standing t .rows) × (standing t .rows ≤ blockSize) × (standing t .key ≤ standing t .width) × (standing t .key ≤ 8) × (most t ≤ 256)
 stands vlan = omega arith
 stands static = omega arith
+stands pair = omega arith
 
 -- as many rows as there is room for are in a block
 pub room-inside : (t : Table) (n : ℕ) → n ≤ most t → standing t .rows + n * standing t .width ≤ blockSize
 room-inside vlan n h = omega arith
 room-inside static n h = omega arith
+room-inside pair n h = omega arith
 
 -- the key of a row is that of its entry
 pub key-at : {R : Type 0} (es : List (ℕ × R)) (i : ℕ) (d : R) → getD (keysOf es) i 0 ≡ getD es i (0, d) .0
@@ -43,18 +45,17 @@ beAt-before b p xs q w h l =
 module _ (b : List ℕ) where
   -- how many rows a table has
   pub many-rows : (t : Table) → length (rowsOf t (contentOf b)) ≡ beAt b (standing t .count) 4
-  many-rows vlan = many-vlans b
-  many-rows static = many-statics b
+  many-rows t = many-in b t
 
   -- its keys
   pub row-keys : (t : Table) → keysOf (rowsOf t (contentOf b)) ≡ keysAt (standing t .key) (standing t .width) b (standing t .rows) (beAt b (standing t .count) 4)
-  row-keys vlan = vlan-keys b
-  row-keys static = static-keys b
+  row-keys t = keys-are b t
 
   -- at most as many as there is room for
   pub few-rows : (t : Table) → Sized b → beAt b (standing t .count) 4 ≤ most t
   few-rows vlan s = s .fewVlans
   few-rows static s = s .fewStatics
+  few-rows pair s = s .fewPairs
 
   -- the key of the row at place i, where it stands
   pub key-is : (t : Table) (i : ℕ) → i < length (rowsOf t (contentOf b)) → getD (keysOf (rowsOf t (contentOf b))) i 0 ≡ beAt b (standing t .rows + i * standing t .width) (standing t .key)

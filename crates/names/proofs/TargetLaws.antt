@@ -35,6 +35,19 @@ told-answered : (x : Option ℕ) → toldKey (answered x) ≡ x
 told-answered none = refl
 told-answered (some k) = refl
 
+-- what the device says of the object o at place i decides
+module _ (m : Model) (i : ℕ) (name : List ℕ) {o : ObjectType} {b : Bool} (f : o ≡ objectAt i) (g : b ≡ has (m .device) o) where
+  by-device : targetUnder (m .ports) name (onModel m (some i)) ≡ targetUnder (m .ports) name (cond b (some i) none)
+  by-device = ap (λ (t : Bool). targetUnder (m .ports) name (cond t (some i) none)) (sym (g ∙ ap (has (m .device)) f))
+
+  -- the name of an object that the device has not leads nowhere
+  pub target-foreign : b ≡ false → targetUnder (m .ports) name (onModel m (some i)) ≡ Unknown
+  target-foreign e = by-device ∙ ap (λ (t : Bool). targetUnder (m .ports) name (cond t (some i) none)) e
+
+  -- where the device has it, the rest of the name decides
+  pub target-own : b ≡ true → targetUnder (m .ports) name (onModel m (some i)) ≡ targetAt i (keyIn (m .ports) (objectAt i .shape) (restOf i name))
+  target-own e = by-device ∙ ap (λ (t : Bool). targetUnder (m .ports) name (cond t (some i) none)) e
+
 -- what the key that the code finds in the octets s of a name says, where o is the object type at place i
 pub target-found : (n i : ℕ) (s : List ℕ) {o : ObjectType} {r : Key} → o ≡ objectAt i
     → r ≡ answered (keyIn n (o .shape) (subids (take (length s - 4 * (7 + o .len)) (drop (4 * (7 + o .len)) s))))
@@ -96,11 +109,3 @@ target-instance m i k l can own =
     ap (λ (p : Option ℕ). targetUnder (m .ports) x (onModel m p)) (place-only x i l (prefix-append (typeName (objectAt i)) (index s k)))
     ∙ ap (λ (b : Bool). targetUnder (m .ports) x (cond b (some i) none)) own
     ∙ ap (λ (l : List ℕ). targetAt i (keyIn (m .ports) s l)) rest ∙ ap (targetAt i) (keyIn-index (m .ports) s k can)
-
--- under an object that the device has not the name leads nowhere, and under one that it has the rest decides
-pub target-foreign : (m : Model) (i : ℕ) (name : List ℕ) → has (m .device) (objectAt i) ≡ false → targetUnder (m .ports) name (onModel m (some i)) ≡ Unknown
-target-foreign m i name e = rw e
-
-pub target-own : (m : Model) (i : ℕ) (name : List ℕ) → has (m .device) (objectAt i) ≡ true
-    → targetUnder (m .ports) name (onModel m (some i)) ≡ targetAt i (keyIn (m .ports) (objectAt i .shape) (restOf i name))
-target-own m i name e = rw e

@@ -29,15 +29,16 @@ fn target_under(m: Model, i: usize, name: &[u8]) -> Target
     ensures { λ r. ⌜ r ≡ targetUnder (m .ports) (subids (now (name .entry))) (onModel m (some i)) ⌝ }
 {
     let o = object(i);
-    if !has_object(m.device, o) {
-        return Target::Unknown;
-    }
-    let shape = o.shape;
-    let at = 4 * (7 + o.len);
-    let key = key_of(m.ports, shape, &name[at..]);
-    match key {
-        Key::At(k) => Target::At { place: i, key: k },
-        Key::Nothing => Target::NoIndex(i),
+    if has_object(m.device, o) {
+        let shape = o.shape;
+        let at = 4 * (7 + o.len);
+        let key = key_of(m.ports, shape, &name[at..]);
+        match key {
+            Key::At(k) => Target::At { place: i, key: k },
+            Key::Nothing => Target::NoIndex(i),
+        }
+    } else {
+        Target::Unknown
     }
 }
 

@@ -34,28 +34,31 @@ returns-7 : tie.Need-returns-7
 returns-7 c = rw (c .match .keys7) (single 100 (c .before .args .j))
 
 returns-8 : tie.Need-returns-8
-returns-8 c = rw (c .match .keys8) (single 300 (c .before .args .j))
+returns-8 c = rw (c .match .keys8) (single 1470 (c .before .args .j))
 
 returns-9 : tie.Need-returns-9
-returns-9 c = rw (c .match .keys9) (single 0 (c .before .args .j))
+returns-9 c = rw (c .match .keys9) (single 300 (c .before .args .j))
 
 returns-10 : tie.Need-returns-10
-returns-10 c = rw (c .match .keys10) (regenerated (c .before .args .j % 8) (omega arith))
+returns-10 c = rw (c .match .keys10) (single 0 (c .before .args .j))
 
 returns-11 : tie.Need-returns-11
-returns-11 c = rw (c .before .match .keys11) (c .fresh-class .ensures)
+returns-11 c = rw (c .match .keys11) (regenerated (c .before .args .j % 8) (omega arith))
 
 returns-12 : tie.Need-returns-12
-returns-12 c = rw (c .match .keys12) (single 1 (c .before .args .j))
+returns-12 c = rw (c .before .match .keys12) (c .fresh-class .ensures)
 
 returns-13 : tie.Need-returns-13
 returns-13 c = rw (c .match .keys13) (single 1 (c .before .args .j))
 
 returns-14 : tie.Need-returns-14
-returns-14 c = rw (c .match .keys14) (single 2 (c .before .args .j))
+returns-14 c = rw (c .match .keys14) (single 1 (c .before .args .j))
 
 returns-15 : tie.Need-returns-15
-returns-15 c = rw (none-fresh _ (c .before .args .place) (c .match .rest))
+returns-15 c = rw (c .match .keys15) (single 2 (c .before .args .j))
+
+returns-16 : tie.Need-returns-16
+returns-16 c = rw (none-fresh _ (c .before .args .place) (c .match .rest))
 
 pub fresh-value-spec : {M : Type 1} → statement M
 fresh-value-spec =
@@ -77,4 +80,5 @@ fresh-value-spec =
     returns-12
     returns-13
     returns-14
-    returns-15)
+    returns-15
+    returns-16)

@@ -143,6 +143,26 @@ returns-34 : tie.Need-returns-34
 unfolding objects decodedRow
 returns-34 c = rw (c .match .keys34)
 
+returns-35 : tie.Need-returns-35
+unfolding objects decodedRow
+returns-35 c = rw (c .match .keys35)
+
+returns-36 : tie.Need-returns-36
+unfolding objects decodedRow
+returns-36 c = rw (c .match .keys36)
+
+returns-37 : tie.Need-returns-37
+unfolding objects decodedRow
+returns-37 c = rw (c .match .keys37)
+
+returns-38 : tie.Need-returns-38
+unfolding objects decodedRow
+returns-38 c = rw (c .match .keys38)
+
+returns-39 : tie.Need-returns-39
+unfolding objects decodedRow
+returns-39 c = rw (c .match .keys39)
+
 -- i is none of the k places from 0 on
 abbrev NoneOf : (X : Type 0) → ℕ → ℕ → Type 0
 NoneOf X i zero = X
@@ -152,13 +172,13 @@ past : (X : Type 0) (i k : ℕ) → NoneOf X i k → k ≤ i
 past X i zero h = omega arith
 past X i (suc k) h = omega (arith, past X i k (h .0), h .1)
 
--- past 34 arms the last place is left
-last : (c : tie.At-match-rest) → c .before .args .i ≡ 34
-last c = omega (arith, past _ (c .before .args .i) 34 (c .match .rest))
+-- past 39 arms the last place is left
+last : (c : tie.At-match-rest) → c .before .args .i ≡ 39
+last c = omega (arith, past _ (c .before .args .i) 39 (c .match .rest))
 
-returns-35 : tie.Need-returns-35
+returns-40 : tie.Need-returns-40
 unfolding objects decodedRow
-returns-35 c = rw (last c)
+returns-40 c = rw (last c)
 
 pub row-spec : {M : Type 1} → statement M
 row-spec =
@@ -198,4 +218,9 @@ row-spec =
     returns-32
     returns-33
     returns-34
-    returns-35)
+    returns-35
+    returns-36
+    returns-37
+    returns-38
+    returns-39
+    returns-40)

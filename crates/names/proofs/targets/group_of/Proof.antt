@@ -72,7 +72,19 @@ unfolding tableOf tableFrom objects same
 returns-16 c = rw (c .match .keys16)
 
 returns-17 : tie.Need-returns-17
-returns-17 c = sym (first-alone (c .before .args .place) (c .before .pre) (c .match .rest))
+unfolding tableOf tableFrom objects same
+returns-17 c = rw (c .match .keys17)
+
+returns-18 : tie.Need-returns-18
+unfolding tableOf tableFrom objects same
+returns-18 c = rw (c .match .keys18)
+
+returns-19 : tie.Need-returns-19
+unfolding tableOf tableFrom objects same
+returns-19 c = rw (c .match .keys19)
+
+returns-20 : tie.Need-returns-20
+returns-20 c = sym (first-alone (c .before .args .place) (c .before .pre) (c .match .rest))
 
 pub group-of-spec : {M : Type 1} → statement M
 group-of-spec =
@@ -94,4 +106,7 @@ group-of-spec =
     returns-14
     returns-15
     returns-16
-    returns-17)
+    returns-17
+    returns-18
+    returns-19
+    returns-20)

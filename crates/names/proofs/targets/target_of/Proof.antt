@@ -3,7 +3,7 @@ use mathlib.Core.Path.{sym, ap, _∙_}
 use borrow.Author.Needs.{needs}
 use Rattle.names.specs.SubIds.{subids}
 use Rattle.names.specs.Table.{placeOf}
-use Rattle.names.specs.Targets.{targetUnder}
+use Rattle.names.specs.Targets.{targetUnder, onModel}
 use Rattle.names.proofs.TableLaws.{place-is, place-told}
 use Rattle.names.proofs.TargetLaws.{place-fits}
 use Rattle.names.proofs.targets.target_of.Statement.{statement}
@@ -30,14 +30,14 @@ returns c =
     let a = c .before .before .before .before .before .before .args in
     let s = subids (a .name .now) in
     let e = place-told (placeOf s) (sym (c .before .before .found .given .1) ∙ c .before .before .before .before .type-of .ensures) in
-    c .target-under .ensures ∙ sym (ap (targetUnder (a .ports) s) e)
+    c .target-under .ensures ∙ sym (ap (λ p. targetUnder (a .m .ports) s (onModel (a .m) p)) e)
 
 returns-2 : tie.Need-returns-2
 returns-2 c =
     let a = c .before .before .before .before .args in
     let s = subids (a .name .now) in
     let e = place-told (placeOf s) (sym (c .enum-told .given .1) ∙ c .before .before .type-of .ensures) in
-    sym (ap (targetUnder (a .ports) s) e)
+    sym (ap (λ p. targetUnder (a .m .ports) s (onModel (a .m) p)) e)
 
 pub target-of-spec : {M : Type 1} → statement M
 target-of-spec =
