@@ -15,7 +15,7 @@ use Rattle.block.specs.declared.tables.Table.{Table}
 use Rattle.block.specs.declared.tables.Table.the-variants.{Vlan as vlan, Static as static}
 use Rattle.answer.specs.Tables.{ColumnOf, step, removes}
 use Rattle.set.specs.Kept.{statusPlace, statusOf, columnAt, ColumnFits}
-use Rattle.set.specs.Phases.{RowFits}
+use Rattle.set.specs.Phases.{FitsRow}
 use Rattle.set.proofs.judge.AskedLaws.{length-part}
 use Rattle.set.proofs.columns.ColumnLaws.{static-small}
 use Rattle.set.proofs.apply.WholeLaws.{whole-few, written-sized}
@@ -28,7 +28,7 @@ use Rattle.set.proofs.apply.change_row.Tie as tie
 abbrev Asked : Table → tie.Start → Type 0
 Asked t c =
     let a = c .args in
-    RowFits t (a .block .now) (a .request .now) (a .q)
+    FitsRow t (a .block .now) (a .request .now) (a .q)
     × (findKey (a .q .key) (keysOf (rowsOf t (contentOf (a .block .now)))) ≡ At (a .i))
     × (a .q .place ≡ statusPlace t → removes t (statusOf t (a .q .value)) ≡ false)
 
