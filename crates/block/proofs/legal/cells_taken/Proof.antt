@@ -1,6 +1,5 @@
 -- `block::legal::cells_taken` meets its contract: at each `return` the tests made so far decide. Assumes nothing.
 use borrow.Author.Tests.{not-true, not-false}
-use native.Mathlib.Omega.{arith}
 use Rattle.names.proofs.RuleLaws.{step-in-positive}
 use Rattle.block.proofs.LegalLaws.{takes-tests}
 use borrow.Author.Needs.{needs}
