@@ -2,40 +2,40 @@
 use Prim.Native.Nat.{ℕ, _<_}
 use native.Mathlib.Omega.{arith}
 use mathlib.Core.Path.{_≡_, refl, sym, ap, subst, _∙_}
-use mathlib.Core.Bool.{true, false, true≢false, false≢true}
+use mathlib.Core.Bool.{Bool, true, false, not, true≢false, false≢true, and-false}
 use mathlib.Core.Option.{Option, none, some, Option·map, Option·none-ne-some, Option·some-injective}
 use mathlib.Core.List.{List, [], _∷_}
 use lib.ListN.{length}
 use Rattle.octets.proofs.BoolLaws.{by-bool}
 use lib.Dec.{eqb}
-use borrow.Author.Tests.{eqb-true, eq-eqb}
-use Rattle.octets.specs.Parts.{zeros}
+use borrow.Author.Tests.{eq-eqb, ne-eqb}
 use Rattle.octets.proofs.NumberLaws.{Octets}
 use Rattle.names.specs.Index.{canHave, index}
 use Rattle.names.specs.Table.{objectAt}
+use Rattle.names.specs.Places.{pairBridgeNum}
 use Rattle.names.specs.Instances.{instanceName}
 use Rattle.names.specs.Ascending.{All}
 use Rattle.block.specs.Content.{Content, modelOf}
-use Rattle.block.specs.Lookup.{lookup}
+use Rattle.block.specs.Lookup.{keysOf, lookup}
 use Rattle.block.specs.Valid.{valid, testOf}
-use Rattle.block.proofs.ValidParts.{Valid, valid-parts}
+use Rattle.block.proofs.ValidParts.{valid-parts}
 use Rattle.block.proofs.KeepLaws.{rowsOk-lookup}
-use Rattle.answer.specs.Values.{Value}
-use Rattle.answer.specs.Get.{get}
-use Rattle.answer.specs.Writes.{field, isStatus, present, ordered, playRow}
-use Rattle.block.specs.Tables.{Row, rowsOf, shapeOf, hasTable, roomIn}
+use Rattle.answer.specs.Get.{elem, get}
+use Rattle.answer.specs.Writes.{status, field, isStatus, onStatus, present, those, ordered, has, playRow}
+use Rattle.block.specs.Tables.{Row, rowsOf, shapeOf, hasTable}
 use Rattle.block.specs.declared.tables.Table.{Table}
 use Rattle.block.specs.declared.tables.Table.the-variants.{Vlan as vlan, Static as static, Pair as pair}
-use Rattle.answer.specs.Tables.{create, state, destroy, name, egress, forbidden, untagged, keep, drop, allowed, paired, unpaired, bridgeNumber, Status, Field, ColumnOf, columnPlace, madeVlan, statusStep, fieldStep, step}
+use Rattle.answer.specs.Tables.{create, state, destroy, name, egress, forbidden, untagged, keep, drop, allowed, paired, unpaired, bridgeNumber, Status, Field, ColumnOf, columnPlace, madeVlan, statusStep, fieldStep, step, makes}
 use Rattle.answer.specs.Judge.{Asked, Judged, judged}
-use Rattle.answer.specs.Set.{writesTo, verdict, apply, after}
+use Rattle.answer.specs.Set.{writesTo, rowFault, isFull, fault, verdict, apply, after}
 use Rattle.answer.specs.Theorems.{startOf, columnName}
 use Rattle.answer.proofs.GetLaws.{valid-rows}
+use Rattle.answer.proofs.RoomLaws.{elem-not-head, elem-not-tail}
 use Rattle.answer.proofs.JudgeLaws.{judged-single, judged-unnamed}
-use Rattle.answer.proofs.WriteLaws.{play-row}
+use Rattle.answer.proofs.WriteLaws.{has-find, play-row, row-keeps-quiet}
 use Rattle.answer.proofs.ContentOrder.{rows-apply}
-use Rattle.answer.proofs.KeepValid.{valid-rising, after-valid}
-use Rattle.answer.proofs.RespondLaws.{accepted-applies}
+use Rattle.answer.proofs.KeepValid.{each-row, each-ordered, valid-rising, after-valid}
+use Rattle.answer.proofs.RespondLaws.{faulted-keeps, accepted-applies, accepted-clean}
 use Rattle.answer.proofs.OnlyWriteLaws.{field-started}
 use Rattle.answer.proofs.StoredLaws.{shows, held, row-got, field-quiet}
 
@@ -77,6 +77,54 @@ has-row t c k ok p =
 absent-none : {R : Type 0} (o : Option R) → present o ≡ false → o ≡ none
 absent-none none e = refl
 absent-none (some r) e = absurd (true≢false e)
+
+-- the bridge number is the one column of a pair beside its state
+unbound : (k : ℕ) (ws : List (ℕ × ColumnOf pair)) → elem k (keysOf (those (λ c. eqb (columnPlace pair c) pairBridgeNum) ws)) ≡ false
+    → has (λ c. not (isStatus c)) k ws ≡ false
+unfolding those has
+unbound k [] h = refl
+unbound k ((j, status x) ∷ ws) h = rw (and-false (eqb k j)) (unbound k ws h)
+unbound k ((j, field f) ∷ ws) h =
+    let rest : List ℕ = keysOf (those (λ c. eqb (columnPlace pair c) pairBridgeNum) ws) in
+    rw (ne-eqb k j (elem-not-head k j rest h)) (unbound k ws (elem-not-tail k j rest h))
+
+-- a binding that makes an absent pair without it is at fault
+lacks-number : (n : ℕ) (f : Bool) (ws : List (ℕ × ColumnOf pair)) (k : ℕ) (x : ColumnOf pair) → has (λ c. not (isStatus c)) k ws ≡ false
+    → onStatus (makes pair) x ≡ true → rowFault n pair f ws k x none ≡ 0 → ⊥
+unfolding rowFault
+lacks-number n f ws k (status (paired s)) b q h = omega (arith, rw b at h)
+lacks-number n f ws k (status unpaired) b q h = false≢true q
+lacks-number n f ws k (field y) b q h = false≢true q
+
+-- and without such a binding the pair stays absent
+stays-absent : (n k : ℕ) (x : ColumnOf pair) → onStatus (makes pair) x ≡ false → (o : Option (Row pair)) → present o ≡ false → present (step n pair k x o) ≡ false
+stays-absent n k (status (paired s)) q o h = absurd (true≢false q)
+stays-absent n k (status unpaired) q o h = refl
+stays-absent n k (field y) q none h = refl
+stays-absent n k (field y) q (some r) h = h
+
+-- so an accepted set names the bridge number of each pair that it makes
+pub made-numbered : (c : Content) (bs : List Asked) → valid c ≡ true → (k : ℕ) → present (lookup k (c .pairs)) ≡ false
+    → present (lookup k (after c (judged (modelOf c) bs) .pairs)) ≡ true → All (λ b. b .name ≡ instanceName (objectAt pairBridgeNum) k → ⊥) bs → ⊥
+made-numbered c bs ok k was now un =
+    let n : ℕ = c .ports in
+    let m : List Judged = judged (modelOf c) bs in
+    let ws : List (ℕ × ColumnOf pair) = writesTo pair m in
+    let us : List (ℕ × ColumnOf pair) = ordered isStatus ws in
+    let o : Option (Row pair) = lookup k (c .pairs) in
+    by-bool (eqb (verdict c m .status) 0)
+    (λ e.
+    let there : present (playRow (step n pair) k us o) ≡ true =
+    sym (ap (λ (d : Content). present (lookup k (d .pairs))) (accepted-applies c m e) ∙ ap (λ (es : List (ℕ × Row pair)). present (lookup k es)) (rows-apply pair c m)
+    ∙ ap present (play-row (step n pair) k (c .pairs) us (valid-rising c ok pair))) ∙ now in
+    by-bool (has (onStatus (makes pair)) k us)
+    (λ q. has-find (onStatus (makes pair)) k (λ j x. rowFault n pair (isFull pair c m) ws j x (lookup j (c .pairs)) ≡ 0) ⊥
+    (λ x p h. lacks-number n (isFull pair c m) ws k x (unbound k ws (judged-unnamed (modelOf c) (valid-parts c ok .fewPorts) pair pairBridgeNum k bs un)) p
+    (rw (absent-none o was) at h))
+    us q (each-ordered (λ j x. rowFault n pair (isFull pair c m) ws j x (lookup j (c .pairs)) ≡ 0) isStatus ws
+    (each-row (λ b. fault c m b ≡ 0) pair (λ j x. rowFault n pair (isFull pair c m) ws j x (lookup j (c .pairs)) ≡ 0) (λ g j x h. h) m (accepted-clean c m e))))
+    (λ q. true≢false (sym there ∙ row-keeps-quiet (step n pair) (λ z. present z ≡ false) (onStatus (makes pair)) (stays-absent n) k us o q was)))
+    (λ e. true≢false (sym now ∙ ap (λ (d : Content). present (lookup k (d .pairs))) (faulted-keeps c m e) ∙ was))
 
 pub made-start : (c : Content) (bs : List Asked) → valid c ≡ true → All (λ b. Octets (b .content)) bs → verdict c (judged (modelOf c) bs) .status ≡ 0
     → (t : Table) (k : ℕ) (f : Field t) → present (lookup k (rowsOf t c)) ≡ false → present (lookup k (rowsOf t (after c (judged (modelOf c) bs)))) ≡ true

@@ -15,7 +15,7 @@ use Rattle.names.specs.Places.{bridgeMaxAge, bridgeHelloTime, bridgeForwardDela
 use Rattle.block.specs.Content.{Content, modelOf}
 use Rattle.block.specs.Cells.{cellOf, timerIn}
 use Rattle.block.specs.Image.{contentOf}
-use Rattle.block.specs.Valid.{second, together, timersOk, valid, legal}
+use Rattle.block.specs.Valid.{second, together, timersOk, valid}
 use Rattle.names.proofs.RuleLaws.{takes-range}
 use Rattle.block.proofs.ValidParts.{valid-parts}
 use Rattle.block.proofs.RoundLaws.{legal-valid}

@@ -1,6 +1,6 @@
 -- Two cells that are read as one number: whether both hold 0 to 7. Assumes nothing.
 use mathlib.Core.Path.{_≡_, refl, sym, ap, _∙_}
-use mathlib.Core.Bool.{Bool, true, false, _&&_, and-assoc}
+use mathlib.Core.Bool.{Bool, true, false, not, _&&_, _||_, and-assoc}
 use mathlib.Core.List.{List, [], _∷_}
 use Prim.Native.Nat.{ℕ, _+_, _*_, _/_, _%_, _^_, _≤_, _<_}
 use native.Mathlib.Omega.{arith}
@@ -10,7 +10,7 @@ use lib.ListN.{length, getD, take, drop}
 use borrow.Author.Tests.{le-leb, leb-true, leb-false, eq-eqb, ne-eqb}
 use Rattle.octets.specs.Numbers.{beAt}
 use Rattle.octets.proofs.NumberLaws.{Octets, beAt-more, beAt-one, beAt-lt}
-use Rattle.names.specs.Rule.{inRange, inSteps}
+use Rattle.names.specs.Rule.{inRange, inSteps, isFrame, inFrames}
 use Rattle.names.proofs.RuleLaws.{step-one}
 use Rattle.names.specs.declared.table.ObjectType.{ObjectType}
 use Rattle.block.specs.Image.{contentOf}
@@ -95,3 +95,13 @@ pub every-unstepped : (s : ℕ) → s ≡ 1 → (xs : List ℕ) → every (inSte
 unfolding every
 every-unstepped s e [] = refl
 every-unstepped s e (x ∷ xs) = rw (e, step-one x) (rw e at (every-unstepped s e xs))
+
+-- an object that takes other numbers than the largest frames leaves nothing to test
+pub every-unframed : (o : ObjectType) → o .frames ≡ false → (xs : List ℕ) → every (inFrames o) xs ≡ true
+unfolding every
+every-unframed o e [] = refl
+every-unframed o e (x ∷ xs) = rw e (rw e at (every-unframed o e xs))
+
+-- and one that takes these alone has the test of a frame
+pub every-framed : (o : ObjectType) → o .frames ≡ true → (xs : List ℕ) → every (inFrames o) xs ≡ every isFrame xs
+every-framed o e xs = ap (λ (b : Bool). every (λ v. not b || isFrame v) xs) e

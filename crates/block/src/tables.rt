@@ -1,7 +1,7 @@
 // The growing tables: where each stands in a block, and what is done alike with the rows of all of them.
 ghost use mathlib.Core.Path.{_≡_};
 ghost use Prim.Native.Nat.{_+_, _*_, _<_, _≤_};
-ghost use lib.Dec.{ltb};
+ghost use lib.Dec.{leb, ltb};
 ghost use lib.ListN.{length, getD};
 ghost use Rattle.octets.specs.Numbers.{beAt};
 ghost use Rattle.names.specs.Index.{firstFrom, answered};
@@ -92,7 +92,7 @@ fn device_of(t: Table) -> u32
 }
 
 // How many rows a table has room for on a device.
-pub fn room_in(device: u32, t: Table) -> usize
+fn room_in(device: u32, t: Table) -> usize
     ensures { λ r. ⌜ r ≡ roomIn device t ⌝ }
 {
     if device == device_of(t) {
@@ -109,6 +109,14 @@ pub fn row_count(block: &[u8], t: Table) -> usize
 {
     let at = standing_of(t);
     be4(block, at.count) as usize
+}
+
+// Whether a table has no more rows than there is room for on a device.
+pub fn fits_in(block: &[u8], device: u32, t: Table) -> bool
+    requires { ⌜ length (now block) ≡ blockSize ⌝ }
+    ensures { λ r. ⌜ r ≡ leb (length (rowsOf t (contentOf (now (block .entry))))) (roomIn device t) ⌝ }
+{
+    row_count(block, t) <= room_in(device, t)
 }
 
 // The index behind a table's last row.

@@ -19,6 +19,9 @@ exchange-status-requires c κs = search needs
 enum-told-2 : tie.Need-enum-told-2
 enum-told-2 c = search needs
 
+enum-told-3 : tie.Need-enum-told-3
+enum-told-3 c = search needs
+
 same-length : tie.Need-same-length
 same-length c = search needs
 
@@ -30,6 +33,10 @@ returns-2 : tie.Need-returns-2
 unfolding uncounted
 returns-2 c = rw (c .enum-told2 .given .1)
 
+returns-3 : tie.Need-returns-3
+unfolding uncounted
+returns-3 c = rw (c .enum-told3 .given .1)
+
 pub uncount-spec : {M : Type 1} → statement M
 uncount-spec =
     tie.close
@@ -38,6 +45,8 @@ uncount-spec =
     vlan-status-requires
     exchange-status-requires
     enum-told-2
+    enum-told-3
     same-length
     returns
-    returns-2)
+    returns-2
+    returns-3)

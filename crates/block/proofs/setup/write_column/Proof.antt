@@ -1,10 +1,11 @@
--- `block::setup::write_column` meets its contract. The invariant says it of the object's first j cells, for every content. Assumes nothing.
+-- `block::setup::write_column` meets its contract. The invariant says it of the object's first j cells, for every content and every model with as many live cells. Assumes nothing.
 use mathlib.Core.Path.{_≡_, ap, _∙_}
 use Prim.Native.Nat.{_≤_, _-_}
 use native.Mathlib.Omega.{arith}
 use lib.ListN.{length}
 use Rattle.names.specs.Table.{objectAt}
-use Rattle.block.specs.Cells.{cellsOf, liveCells, firstCell}
+use Rattle.names.specs.declared.model.Model.{Model}
+use Rattle.block.specs.Cells.{cellsOf, liveIn, firstCell}
 use Rattle.block.specs.Content.{Content, WellFormed}
 use Rattle.block.specs.Image.{image}
 use Rattle.block.proofs.FreshLaws.{columnTo, column-none, column-room, column-shape, column-more, column-all}
@@ -12,18 +13,18 @@ use Rattle.block.proofs.setup.write_column.Statement.{statement}
 use Rattle.block.proofs.setup.write_column.Tie as tie
 
 abbrev Inv-loop : tie.InvT-loop
-Inv-loop block₀ n i live total first j₀ block j =
-    (live ≡ liveCells n (objectAt i .shape)) × (total ≡ cellsOf (objectAt i)) × (first ≡ firstCell i) × (j ≤ total) × (length block ≡ 32768)
-    × ((c : Content) → WellFormed c → block₀ ≡ image c → block ≡ image (columnTo n c i j))
+Inv-loop block₀ i live total first j₀ block j =
+    (total ≡ cellsOf (objectAt i)) × (first ≡ firstCell i) × (j ≤ total) × (length block ≡ 32768)
+    × ((m : Model) → m .ports ≤ 64 → live ≡ liveIn m (objectAt i) → (c : Content) → WellFormed c → block₀ ≡ image c → block ≡ image (columnTo m c i j))
 
 abbrev μ-loop : tie.MeasureT-loop
-μ-loop block₀ n i live total first j₀ block j = total - j
+μ-loop block₀ i live total first j₀ block j = total - j
 
 object-requires : tie.Need-object-requires Inv-loop μ-loop
 object-requires c κs = omega arith
 
-live-cells-requires : tie.Need-live-cells-requires Inv-loop μ-loop
-live-cells-requires c κs = omega arith
+live-in-requires : tie.Need-live-in-requires Inv-loop μ-loop
+live-in-requires c κs = omega arith
 
 cells-of-requires : tie.Need-cells-of-requires Inv-loop μ-loop
 cells-of-requires c κs = tt
@@ -33,14 +34,12 @@ first-cell-requires c κs = omega arith
 
 loop-holds : tie.Need-loop-holds Inv-loop μ-loop
 loop-holds c =
-    let a = c .before .before .before .before .before in
-    let o = c .before .before .before .object .ensures in (
-      rw (← o) (c .before .before .live-cells .ensures),
-      rw (← o) (c .before .cells-of .ensures),
+    let a = c .before .before .before .before .before in (
+      rw (← c .before .before .before .object .ensures) (c .before .cells-of .ensures),
       c .first-cell .ensures .0,
       omega arith,
       a .pre .0,
-      λ k s e. e ∙ ap image (column-none (a .args .n) k (a .args .i)),
+      λ m few e k s h. h ∙ ap image (column-none m k (a .args .i)),
     )
 
 add-put-cell : tie.Need-add-put-cell Inv-loop μ-loop
@@ -63,16 +62,14 @@ loop-again c =
     let l = c .before .before .before .before .before .before .loop in
     let a = c .before .before .before .before .before .before .before .before .before .before .before .before in
     let i = a .args .i in
-    let n = a .args .n in
     let w = c .before .before .put-cell in
     let v = c .before .before .before .fresh-cell .ensures in (
       l .inv .0,
       l .inv .1,
-      l .inv .2,
       omega arith,
-      w .kept .0 ∙ l .inv .4,
-      λ k s e. w .ensures (columnTo n k i (l .j)) (column-shape n (a .pre .1) s i (a .pre .2) (l .j) (omega arith)) (l .inv .5 k s e)
-          ∙ ap image (rw (v, l .inv .0, l .inv .2) (column-more n (a .pre .1) s i (a .pre .2) (l .j) (omega arith))),
+      w .kept .0 ∙ l .inv .3,
+      λ m few e k s h. w .ensures (columnTo m k i (l .j)) (column-shape m few s i (a .pre .2) (l .j) (omega arith)) (l .inv .4 m few e k s h)
+          ∙ ap image (rw (v, e, l .inv .1) (column-more m few s i (a .pre .2) (l .j) (omega arith))),
     )
 
 same-length : tie.Need-same-length Inv-loop μ-loop
@@ -81,8 +78,10 @@ same-length c = omega arith
 returns : tie.Need-returns Inv-loop μ-loop
 returns c k s e =
     let l = c .before .loop in
-    let a = c .before .before .before .before .before .before .before in
-    l .inv .5 k s e ∙ ap image (column-all (a .args .n) (a .pre .1) s (a .args .i) (a .pre .2) (l .j) (omega arith))
+    let d = c .before .before .before .before in
+    let a = d .before .before .before in
+    let live : d .live-in .result ≡ liveIn (a .args .m) (objectAt (a .args .i)) = rw (← d .before .object .ensures) (d .live-in .ensures) in
+    l .inv .4 (a .args .m) (a .pre .1) live k s e ∙ ap image (column-all (a .args .m) (a .pre .1) s (a .args .i) (a .pre .2) (l .j) (omega arith))
 
 pub write-column-spec : {M : Type 1} → statement M
 write-column-spec =
@@ -91,7 +90,7 @@ write-column-spec =
     Inv-loop
     μ-loop
     object-requires
-    live-cells-requires
+    live-in-requires
     cells-of-requires
     first-cell-requires
     loop-holds
