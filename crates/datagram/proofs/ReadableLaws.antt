@@ -19,12 +19,12 @@ use Rattle.message.specs.Theorems.{Carried, AllCarried}
 use Rattle.message.proofs.FormLaws.{cond-cases}
 use Rattle.message.proofs.ReadBack.{any-reads-back}
 use Rattle.datagram.specs.Ber.{fewest, five, four, integer32, unsigned32, numberJudged, subIds, contentJudged, contentOctets}
-use Rattle.datagram.specs.Reading.{takesOf, Within, boundAt, Reading, refused, message, readDatagram, Given, givenBy, fromDatagram}
+use Rattle.datagram.specs.Reading.{takesOf, Within, boundAt, DatagramRead, refused, message, readDatagram, Given, givenBy, fromDatagram}
 use Rattle.datagram.specs.Theorems.{HandsOverReadable}
 use Rattle.datagram.proofs.NameLaws.{two-sub-ids}
 use Rattle.datagram.proofs.PlaceLaws.{length-five, name-below, name-back}
 use Rattle.datagram.proofs.BackLaws.{pick}
-use Rattle.datagram.proofs.ReadLaws.{AllWithin, ReadingTells, reading-tells}
+use Rattle.datagram.proofs.ReadLaws.{AllWithin, DatagramTells, datagram-tells}
 
 -- ## A content that was read has a length that its tag allows
 
@@ -118,9 +118,9 @@ pub hands-over-readable : HandsOverReadable
 unfolding fromDatagram givenBy
 hands-over-readable answers room s o =
     cond-cases (Handed answers) (ltb (length room) mostOctets) (λ t h. nothing h)
-    (λ t. cond-cases (Handed answers) (ltb mostOctets (length s)) (λ u h. nothing h) (λ u. read (readDatagram answers s) (reading-tells answers s)))
+    (λ t. cond-cases (Handed answers) (ltb mostOctets (length s)) (λ u h. nothing h) (λ u. read (readDatagram answers s) (datagram-tells answers s)))
   where
-    read : (x : Reading) → ReadingTells answers s x → Handed answers (givenBy room s x)
+    read : (x : DatagramRead) → DatagramTells answers s x → Handed answers (givenBy room s x)
     read (refused n) w = λ h. nothing h
     read (message kind id status index community size bs) w =
         let octets : List ℕ = messageOctets kind id status index (map (boundAt s) bs) in

@@ -321,25 +321,25 @@ pub head-kind : (s : List ℕ) {h : Head} {kind id status index : ℕ} → h ≡
 head-kind s e f = subst HeadTells (sym e ∙ f) (head-tells s)
 
 module _ (s : List ℕ) where
-  abbrev StepTells : ℕ → BindingRead → Type 0
-  StepTells at (BindingRead.Refused r) = r .at ≤ length s + 16
-  StepTells at (BindingRead.Bound b next) = Writable s b × (next ≡ at + (9 + b .size + b .len)) × (next ≤ length s)
+  abbrev BerBindingTells : ℕ → BindingRead → Type 0
+  BerBindingTells at (BindingRead.Refused r) = r .at ≤ length s + 16
+  BerBindingTells at (BindingRead.Bound b next) = Writable s b × (next ≡ at + (9 + b .size + b .len)) × (next ≤ length s)
 
-  step-tells : (at : ℕ) → at ≤ length s → StepTells at (responseAt s at)
+  ber-binding-tells : (at : ℕ) → at ≤ length s → BerBindingTells at (responseAt s at)
   unfolding responseAt responseIn contentIn contentRole lengthRight
-  step-tells at h =
-      checked-cases (StepTells at) Bind s at (length s) (λ r e. omega arith)
+  ber-binding-tells at h =
+      checked-cases (BerBindingTells at) Bind s at (length s) (λ r e. omega arith)
       (λ tag start len e.
       let w : InPlace Bind at (length s) tag start len = told s refl e in
-      checked-cases (StepTells at) Name s start (start + len) (λ r f. omega (arith, w .within, w .starts))
+      checked-cases (BerBindingTells at) Name s start (start + len) (λ r f. omega (arith, w .within, w .starts))
       (λ ntag name size f.
       let v : InPlace Name start (start + len) ntag name size = told s refl f in
       let n : (8 ≤ size) × (size % 4 ≡ 0) × (size ≤ 512) = name-length ntag size (v .right) in
-      cond-cases (StepTells at) (nameWritten s name)
-      (λ t. checked-cases (StepTells at) Answered s (name + size) (start + len) (λ r g. omega (arith, w .within, v .within))
+      cond-cases (BerBindingTells at) (nameWritten s name)
+      (λ t. checked-cases (BerBindingTells at) Answered s (name + size) (start + len) (λ r g. omega (arith, w .within, v .within))
       (λ ctag content clen g.
       let u : InPlace Answered (name + size) (start + len) ctag content clen = told s refl g in
-      cond-cases (StepTells at) (leb (start + len) (content + clen))
+      cond-cases (BerBindingTells at) (leb (start + len) (content + clen))
       (λ y.
       let z : start + len ≤ content + clen = leb-true (start + len) (content + clen) y in (
         record {
@@ -375,7 +375,7 @@ module _ (s : List ℕ) where
   BindingsTell left at (ended r) = r .at ≤ length s + 16
   BindingsTell left at (all bs) = (length bs ≤ left) × AllWritable bs
 
-  more-tells : (left at : ℕ) (k : BindingRead) (go : ℕ → Bindings) → StepTells at k → ((next : ℕ) → BindingsTell left next (go next)) → BindingsTell (suc left) at (bindingThen k go)
+  more-tells : (left at : ℕ) (k : BindingRead) (go : ℕ → Bindings) → BerBindingTells at k → ((next : ℕ) → BindingsTell left next (go next)) → BindingsTell (suc left) at (bindingThen k go)
   more-tells left at (BindingRead.Refused r) go w h = w
   more-tells left at (BindingRead.Bound b next) go w h = prepended (go next) (h next)
     where
@@ -388,7 +388,7 @@ module _ (s : List ℕ) where
   bindings-tell zero at = cond-cases (BindingsTell zero at) (leb (length s) at) (λ _. (omega arith, tt)) (λ t. omega (arith, seventeenth-tells at, leb-false (length s) at t))
   bindings-tell (suc left) at =
       cond-cases (BindingsTell (suc left) at) (leb (length s) at) (λ _. (omega arith, tt))
-      (λ t. more-tells left at (responseAt s at) (responsesFrom s left) (step-tells at (omega (arith, leb-false (length s) at t))) (bindings-tell left))
+      (λ t. more-tells left at (responseAt s at) (responsesFrom s left) (ber-binding-tells at (omega (arith, leb-false (length s) at t))) (bindings-tell left))
 
   all-at : (bs : List Binding) → AllWritable bs → (i : ℕ) → i < length bs → Writable s (getD bs i noBinding)
   all-at [] w i h = absurd (omega arith)

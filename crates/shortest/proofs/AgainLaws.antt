@@ -37,25 +37,25 @@ module _ (s : List ℕ) where
       checked-cases (Named name) (contentRole 2) s (name + size) end (λ r e. tt) (λ tag start len e. cond-cases (Named name) (leb end (start + len)) (λ t. refl) (λ t. tt))
 
   -- where the form reads a binding whose name has a counterpart, writing reads the same
-  abbrev StepSame : (wrote reads : BindingRead) → Type 0
-  StepSame wrote (BindingRead.Refused r) = Unit {0}
-  StepSame wrote (BindingRead.Bound b next) = nameWritten s (b .name) ≡ true → wrote ≡ BindingRead.Bound b next
+  abbrev BindingReadSame : (wrote reads : BindingRead) → Type 0
+  BindingReadSame wrote (BindingRead.Refused r) = Unit {0}
+  BindingReadSame wrote (BindingRead.Bound b next) = nameWritten s (b .name) ≡ true → wrote ≡ BindingRead.Bound b next
 
-  judged-same : (name : ℕ) (k stop : BindingRead) → Named name k → StepSame (cond (nameWritten s name) k stop) k
+  judged-same : (name : ℕ) (k stop : BindingRead) → Named name k → BindingReadSame (cond (nameWritten s name) k stop) k
   judged-same name (BindingRead.Refused r) stop e = tt
   judged-same name (BindingRead.Bound b next) stop e = λ h. rw (← e, h)
 
   name-same : (end : ℕ) (c : Checked)
-      → StepSame (checkedThen c BindingRead.Refused (λ tag start len. cond (nameWritten s start) (contentIn 2 s end start len) (BindingRead.Refused (refusal 19 0))))
+      → BindingReadSame (checkedThen c BindingRead.Refused (λ tag start len. cond (nameWritten s start) (contentIn 2 s end start len) (BindingRead.Refused (refusal 19 0))))
       (checkedThen c BindingRead.Refused (λ tag start len. contentIn 2 s end start len))
   name-same end (Checked.Refused r) = tt
   name-same end (Checked.Found tag start len) = judged-same start (contentIn 2 s end start len) (BindingRead.Refused (refusal 19 0)) (content-named end start len)
 
-  step-same : (at : ℕ) → StepSame (responseAt s at) (bindingAt 2 s at)
+  binding-read-same : (at : ℕ) → BindingReadSame (responseAt s at) (bindingAt 2 s at)
   unfolding responseAt bindingAt responseIn bindingIn
-  step-same at = go (checkedAt Bind s at (length s))
+  binding-read-same at = go (checkedAt Bind s at (length s))
     where
-      go : (c : Checked) → StepSame (checkedThen c BindingRead.Refused (λ tag start len. responseIn s start (start + len))) (checkedThen c BindingRead.Refused (λ tag start len. bindingIn 2 s start (start + len)))
+      go : (c : Checked) → BindingReadSame (checkedThen c BindingRead.Refused (λ tag start len. responseIn s start (start + len))) (checkedThen c BindingRead.Refused (λ tag start len. bindingIn 2 s start (start + len)))
       go (Checked.Refused r) = tt
       go (Checked.Found tag start len) = name-same (start + len) (checkedAt Name s start (start + len))
 
@@ -69,7 +69,7 @@ module _ (s : List ℕ) where
   Same wrote (ended r) = Unit {0}
   Same wrote (all bs) = AllWritten bs → wrote ≡ all bs
 
-  more-same : (wrote reads : BindingRead) (go other : ℕ → Bindings) → StepSame wrote reads → ((next : ℕ) → Same (go next) (other next)) → Same (bindingThen wrote go) (bindingThen reads other)
+  more-same : (wrote reads : BindingRead) (go other : ℕ → Bindings) → BindingReadSame wrote reads → ((next : ℕ) → Same (go next) (other next)) → Same (bindingThen wrote go) (bindingThen reads other)
   more-same wrote (BindingRead.Refused r) go other w f = tt
   more-same wrote (BindingRead.Bound b next) go other w f = prepended (other next) (f next)
     where
@@ -84,7 +84,7 @@ module _ (s : List ℕ) where
       go : (t : Bool) → Same (cond t (all []) (ended (seventeenth s at))) (cond t (all []) (ended (seventeenth s at)))
       go true = λ h. refl
       go false = tt
-  bindings-same (suc left) at = go (leb (length s) at) (more-same (responseAt s at) (bindingAt 2 s at) (responsesFrom s left) (bindingsFrom 2 s left) (step-same at) (bindings-same left))
+  bindings-same (suc left) at = go (leb (length s) at) (more-same (responseAt s at) (bindingAt 2 s at) (responsesFrom s left) (bindingsFrom 2 s left) (binding-read-same at) (bindings-same left))
     where
       go : (t : Bool) → Same (bindingThen (responseAt s at) (responsesFrom s left)) (bindingThen (bindingAt 2 s at) (bindingsFrom 2 s left))
           → Same (cond t (all []) (bindingThen (responseAt s at) (responsesFrom s left))) (cond t (all []) (bindingThen (bindingAt 2 s at) (bindingsFrom 2 s left)))

@@ -17,9 +17,9 @@ use Rattle.datagram.specs.declared.ber.Found.{Found}
 use Rattle.datagram.specs.declared.ber.Found.the-variants.{Refused, At}
 use Rattle.datagram.specs.declared.reading.Opening.{Opening}
 use Rattle.datagram.specs.declared.reading.Head.{Head}
-use Rattle.datagram.specs.declared.reading.Step.{Step}
+use Rattle.datagram.specs.declared.reading.BerBinding.{BerBinding}
 use Rattle.datagram.specs.Ber.{lengthOctets, fieldAt, fieldThen, foundThen, partAt, numberAt, isNumber, fewest, integer32, nameWhole, nameFits, contentTag, contentJudged}
-use Rattle.datagram.specs.Reading.{pduTaken, pduIn, communityIn, versionIn, openingOf, statusJudged, statusAt, listIn, indexIn, statusIn, headIn, contentIn, nameIn, bindingAt, seventeenth, Bindings, ended, all, prepend, stepThen, bindingsFrom, wholeOf, openingThen, headThen, Reading, refused, message, pduOf, readDatagram}
+use Rattle.datagram.specs.Reading.{pduTaken, pduIn, communityIn, versionIn, openingOf, statusJudged, statusAt, listIn, indexIn, statusIn, headIn, contentIn, nameIn, bindingAt, seventeenth, Bindings, ended, all, prepend, berBindingThen, bindingsFrom, wholeOf, openingThen, headThen, DatagramRead, refused, message, pduOf, readDatagram}
 
 -- a refusal's number is not 0
 abbrev FoundSure : Found → Type 0
@@ -34,17 +34,17 @@ abbrev HeadSure : Head → Type 0
 HeadSure (Head.Refused n) = 0 < n
 HeadSure (Head.Found id status index from list) = Unit {0}
 
-abbrev StepSure : Step → Type 0
-StepSure (Step.Refused n) = 0 < n
-StepSure (Step.Bound b next) = Unit {0}
+abbrev BerBindingSure : BerBinding → Type 0
+BerBindingSure (BerBinding.Refused n) = 0 < n
+BerBindingSure (BerBinding.Bound b next) = Unit {0}
 
 abbrev BindingsSure : Bindings → Type 0
 BindingsSure (ended n) = 0 < n
 BindingsSure (all bs) = Unit {0}
 
-abbrev pub ReadingSure : Reading → Type 0
-ReadingSure (refused n) = 0 < n
-ReadingSure (message kind id status index community size bs) = Unit {0}
+abbrev pub DatagramSure : DatagramRead → Type 0
+DatagramSure (refused n) = 0 < n
+DatagramSure (message kind id status index community size bs) = Unit {0}
 
 field-sure : {A : Type 0} (P : A → Type 0) (f : Field) {stop : ℕ → A} {go : ℕ → ℕ → ℕ → A} → ((n : ℕ) → 0 < n → P (stop n)) → ((tag start len : ℕ) → P (go tag start len)) → P (fieldThen f stop go)
 field-sure P Cut refuses finds = refuses 16 (omega arith)
@@ -95,25 +95,25 @@ module _ (s : List ℕ) where
       (λ istart ilen. found-sure HeadSure (partAt 0x30 s (istart + ilen) end) (part-sure 0x30 (istart + ilen) end) (λ n h. h) (λ lstart llen. tt))))
       (λ t. omega arith))
 
-  binding-sure : (kind at end : ℕ) → StepSure (bindingAt kind s at end)
+  binding-sure : (kind at end : ℕ) → BerBindingSure (bindingAt kind s at end)
   unfolding bindingAt nameIn contentIn
   binding-sure kind at end =
-      found-sure StepSure (partAt 0x30 s at end) (part-sure 0x30 at end) (λ n h. h)
-      (λ start len. found-sure StepSure (partAt 0x06 s start (start + len)) (part-sure 0x06 start (start + len)) (λ n h. h)
-      (λ name size. cond-cases StepSure (nameWhole (part s name size))
-      (λ w. cond-cases StepSure (nameFits (part s name size))
-      (λ x. field-sure StepSure (fieldAt s (name + size) (start + len)) (λ n h. h)
-      (λ tag content clen. cond-cases StepSure (tagAllowed (contentRole kind) (contentTag tag))
-      (λ y. cond-cases StepSure (eqb (contentJudged (contentTag tag) (part s content clen)) 0)
-      (λ z. cond-cases StepSure (leb (start + len) (content + clen)) (λ u. tt) (λ u. omega arith))
+      found-sure BerBindingSure (partAt 0x30 s at end) (part-sure 0x30 at end) (λ n h. h)
+      (λ start len. found-sure BerBindingSure (partAt 0x06 s start (start + len)) (part-sure 0x06 start (start + len)) (λ n h. h)
+      (λ name size. cond-cases BerBindingSure (nameWhole (part s name size))
+      (λ w. cond-cases BerBindingSure (nameFits (part s name size))
+      (λ x. field-sure BerBindingSure (fieldAt s (name + size) (start + len)) (λ n h. h)
+      (λ tag content clen. cond-cases BerBindingSure (tagAllowed (contentRole kind) (contentTag tag))
+      (λ y. cond-cases BerBindingSure (eqb (contentJudged (contentTag tag) (part s content clen)) 0)
+      (λ z. cond-cases BerBindingSure (leb (start + len) (content + clen)) (λ u. tt) (λ u. omega arith))
       (λ z. positive (contentJudged (contentTag tag) (part s content clen)) z))
       (λ y. omega arith)))
       (λ x. omega arith))
       (λ w. omega arith)))
 
-  more-sure : (k : Step) (go : ℕ → Bindings) → StepSure k → ((next : ℕ) → BindingsSure (go next)) → BindingsSure (stepThen k go)
-  more-sure (Step.Refused n) go w f = w
-  more-sure (Step.Bound b next) go w f = prepended (go next) (f next)
+  more-sure : (k : BerBinding) (go : ℕ → Bindings) → BerBindingSure k → ((next : ℕ) → BindingsSure (go next)) → BindingsSure (berBindingThen k go)
+  more-sure (BerBinding.Refused n) go w f = w
+  more-sure (BerBinding.Bound b next) go w f = prepended (go next) (f next)
     where
       prepended : (x : Bindings) → BindingsSure x → BindingsSure (prepend b x)
       prepended (ended n) v = v
@@ -132,21 +132,21 @@ module _ (s : List ℕ) where
       cond-cases BindingsSure (leb end at) (λ e. tt)
       (λ e. more-sure (bindingAt kind s at end) (λ next. bindingsFrom kind s end left next) (binding-sure kind at end) (λ next. bindings-sure kind end left next))
 
-  pub reading-sure : (answers : Bool) → ReadingSure (readDatagram answers s)
+  pub datagram-sure : (answers : Bool) → DatagramSure (readDatagram answers s)
   unfolding readDatagram pduOf
-  reading-sure answers = go (openingOf answers s) (opening-sure answers)
+  datagram-sure answers = go (openingOf answers s) (opening-sure answers)
     where
-      last : (kind id status index community size : ℕ) (b : Bool) (x : Bindings) → BindingsSure x → ReadingSure (wholeOf kind id status index community size b x)
+      last : (kind id status index community size : ℕ) (b : Bool) (x : Bindings) → BindingsSure x → DatagramSure (wholeOf kind id status index community size b x)
       last kind id status index community size b (ended n) w = w
       last kind id status index community size true (all bs) w = tt
       last kind id status index community size false (all bs) w = omega arith
 
       mid : (kind community size pdu end : ℕ) (k : Head) → HeadSure k
-          → ReadingSure (headThen k (λ id status index from list. wholeOf kind id status index community size (eqb list pdu && eqb pdu end && eqb end (length s)) (bindingsFrom kind s list 16 from)))
+          → DatagramSure (headThen k (λ id status index from list. wholeOf kind id status index community size (eqb list pdu && eqb pdu end && eqb end (length s)) (bindingsFrom kind s list 16 from)))
       mid kind community size pdu end (Head.Refused n) w = w
       mid kind community size pdu end (Head.Found id status index from list) w =
           last kind id status index community size (eqb list pdu && eqb pdu end && eqb end (length s)) (bindingsFrom kind s list 16 from) (bindings-sure kind list 16 from)
 
-      go : (k : Opening) → OpeningSure k → ReadingSure (openingThen k (pduOf s))
+      go : (k : Opening) → OpeningSure k → DatagramSure (openingThen k (pduOf s))
       go (Opening.Refused n) w = w
       go (Opening.Opened kind community size at pdu end) w = mid kind community size pdu end (headIn kind s at pdu) (head-sure kind at pdu)

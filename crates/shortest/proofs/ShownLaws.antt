@@ -25,9 +25,9 @@ use Rattle.datagram.specs.declared.ber.Found.{Found}
 use Rattle.datagram.specs.declared.ber.Found.the-variants.{Refused, At}
 use Rattle.datagram.specs.declared.reading.Opening.{Opening}
 use Rattle.datagram.specs.declared.reading.Head.{Head}
-use Rattle.datagram.specs.declared.reading.Step.{Step}
+use Rattle.datagram.specs.declared.reading.BerBinding.{BerBinding}
 use Rattle.datagram.specs.Ber.{fieldAt, fieldThen, foundThen, partAt, numberAt, isNumber, fewest, four, integer32, nameWhole, nameFits, subIds, contentTag, contentJudged, contentOctets}
-use Rattle.datagram.specs.Reading.{pduTaken, pduIn, communityIn, versionIn, openingOf, statusJudged, statusAt, lastAt, listIn, indexIn, statusIn, headIn, contentIn, nameIn, bindingAt, Bindings, ended, all, prepend, stepThen, bindingsFrom, wholeOf, openingThen, headThen, Reading, refused, message, pduOf, readDatagram, boundAt}
+use Rattle.datagram.specs.Reading.{pduTaken, pduIn, communityIn, versionIn, openingOf, statusJudged, statusAt, lastAt, listIn, indexIn, statusIn, headIn, contentIn, nameIn, bindingAt, Bindings, ended, all, prepend, berBindingThen, bindingsFrom, wholeOf, openingThen, headThen, DatagramRead, refused, message, pduOf, readDatagram, boundAt}
 use Rattle.datagram.specs.Writing.{shortened, berOctets, nameBer, berTag, contentBer, bindingBer, bindingsBer}
 use Rattle.datagram.proofs.BerLaws.{part-at, part-length, field-told, part-told, number-told}
 use Rattle.datagram.proofs.ReadLaws.{found-cases, field-cases, taken-above, HeadTells, head-tells}
@@ -103,9 +103,9 @@ module _ (s : List ℕ) (o : Octets s) where
 
   -- ## Bindings
 
-  abbrev StepShown : (at end : ℕ) → Step → Type 0
-  StepShown at end (Step.Refused n) = Unit {0}
-  StepShown at end (Step.Bound b next) = (at ≤ next) × (next ≤ end) × Shown s at next (bindingBer (boundAt s b))
+  abbrev BerBindingShown : (at end : ℕ) → BerBinding → Type 0
+  BerBindingShown at end (BerBinding.Refused n) = Unit {0}
+  BerBindingShown at end (BerBinding.Bound b next) = (at ≤ next) × (next ≤ end) × Shown s at next (bindingBer (boundAt s b))
 
   -- the two fields of a binding, in its own
   binding-whole : (kind at end start len name size tag content clen : ℕ) → end ≤ length s → start + len ≤ end → fieldAt s at end ≡ Whole 0x30 start len → fieldAt s start (start + len) ≡ Whole 0x06 name size
@@ -129,19 +129,19 @@ module _ (s : List ℕ) (o : Octets s) where
       (shown-append s o start (name + size) (content + clen) (berOctets 0x06 n) (berOctets (berTag (contentTag tag)) c) a b) in
       shown-field s o at end 0x30 start len (berOctets 0x06 n ++ berOctets (berTag (contentTag tag)) c) e h d
 
-  binding-shown : (kind at end : ℕ) → end ≤ length s → StepShown at end (bindingAt kind s at end)
+  binding-shown : (kind at end : ℕ) → end ≤ length s → BerBindingShown at end (bindingAt kind s at end)
   unfolding bindingAt nameIn contentIn bindingBer boundAt
   binding-shown kind at end h =
-      found-cases (StepShown at end) (partAt 0x30 s at end) (λ n. tt)
+      found-cases (BerBindingShown at end) (partAt 0x30 s at end) (λ n. tt)
       (λ start len e. let (a, b) = part-told 0x30 s at end refl e in
-      found-cases (StepShown at end) (partAt 0x06 s start (start + len)) (λ n. tt)
-      (λ name size f. cond-cases (StepShown at end) (nameWhole (part s name size))
-      (λ w. cond-cases (StepShown at end) (nameFits (part s name size))
-      (λ x. field-cases (StepShown at end) (fieldAt s (name + size) (start + len)) (λ n. tt)
+      found-cases (BerBindingShown at end) (partAt 0x06 s start (start + len)) (λ n. tt)
+      (λ name size f. cond-cases (BerBindingShown at end) (nameWhole (part s name size))
+      (λ w. cond-cases (BerBindingShown at end) (nameFits (part s name size))
+      (λ x. field-cases (BerBindingShown at end) (fieldAt s (name + size) (start + len)) (λ n. tt)
       (λ tag content clen g. let (t, c, d) = field-told s (name + size) (start + len) refl g in
-      cond-cases (StepShown at end) (tagAllowed (contentRole kind) (contentTag tag))
-      (λ y. cond-cases (StepShown at end) (eqb (contentJudged (contentTag tag) (part s content clen)) 0)
-      (λ z. cond-cases (StepShown at end) (leb (start + len) (content + clen))
+      cond-cases (BerBindingShown at end) (tagAllowed (contentRole kind) (contentTag tag))
+      (λ y. cond-cases (BerBindingShown at end) (eqb (contentJudged (contentTag tag) (part s content clen)) 0)
+      (λ z. cond-cases (BerBindingShown at end) (leb (start + len) (content + clen))
       (λ u. (
         omega arith,
         b,
@@ -158,10 +158,10 @@ module _ (s : List ℕ) (o : Octets s) where
   BindingsShown at end (ended n) = Unit {0}
   BindingsShown at end (all bs) = Shown s at end (bindingsBer (map (boundAt s) bs))
 
-  more-shown : (at end : ℕ) (k : Step) (go : ℕ → Bindings) → StepShown at end k → ((next : ℕ) → next ≤ end → BindingsShown next end (go next)) → BindingsShown at end (stepThen k go)
+  more-shown : (at end : ℕ) (k : BerBinding) (go : ℕ → Bindings) → BerBindingShown at end k → ((next : ℕ) → next ≤ end → BindingsShown next end (go next)) → BindingsShown at end (berBindingThen k go)
   unfolding bindingsBer
-  more-shown at end (Step.Refused n) go w f = tt
-  more-shown at end (Step.Bound b next) go w f = prepended (go next) (f next (w .1))
+  more-shown at end (BerBinding.Refused n) go w f = tt
+  more-shown at end (BerBinding.Bound b next) go w f = prepended (go next) (f next (w .1))
     where
       prepended : (x : Bindings) → BindingsShown next end x → BindingsShown at end (prepend b x)
       prepended (ended n) v = tt
@@ -269,13 +269,13 @@ module _ (s : List ℕ) (o : Octets s) where
       (λ y. tt))))
       (λ t. tt)))
 
-  abbrev pub ReadingShown : Reading → Type 0
-  ReadingShown (refused n) = Unit {0}
-  ReadingShown (message kind id status index community size bs) = Shown s 0 (length s) (anyOctets kind (part s community size) id status index (map (boundAt s) bs))
+  abbrev pub DatagramShown : DatagramRead → Type 0
+  DatagramShown (refused n) = Unit {0}
+  DatagramShown (message kind id status index community size bs) = Shown s 0 (length s) (anyOctets kind (part s community size) id status index (map (boundAt s) bs))
 
   -- nothing is left over after the list, the PDU and the message
   ended-shown : (kind id status index community size at pdu end from list : ℕ) → OpeningShown (Opening.Opened kind community size at pdu end) → HeadShown at (Head.Found id status index from list)
-      → (b : Bool) → (eqb list pdu && eqb pdu end && eqb end (length s)) ≡ b → (x : Bindings) → BindingsShown from list x → ReadingShown (wholeOf kind id status index community size b x)
+      → (b : Bool) → (eqb list pdu && eqb pdu end && eqb end (length s)) ≡ b → (x : Bindings) → BindingsShown from list x → DatagramShown (wholeOf kind id status index community size b x)
   unfolding anyOctets
   ended-shown kind id status index community size at pdu end from list w v b q (ended n) u = tt
   ended-shown kind id status index community size at pdu end from list w v false q (all bs) u = tt
@@ -287,18 +287,18 @@ module _ (s : List ℕ) (o : Octets s) where
       berOctets 0x02 (shortened (beOctets 4 id)) ++ (berOctets 0x02 (shortened (0 ∷ status ∷ [])) ++ (berOctets 0x02 (shortened (0 ∷ index ∷ [])) ++ berOctets 0x30 c)) in
       w .2 body (subst (λ (j : ℕ). Shown s at j body) (eqb-true list pdu l) (v .1 c u)) (eqb-true pdu end k) (eqb-true end (length s) r)
 
-  pub reading-shown : (answers : Bool) → ReadingShown (readDatagram answers s)
+  pub datagram-shown : (answers : Bool) → DatagramShown (readDatagram answers s)
   unfolding readDatagram pduOf
-  reading-shown answers = go (openingOf answers s) (opening-shown answers)
+  datagram-shown answers = go (openingOf answers s) (opening-shown answers)
     where
       mid : (kind community size at pdu end : ℕ) → OpeningShown (Opening.Opened kind community size at pdu end) → (k : Head) → HeadShown at k → HeadTells pdu k
-          → ReadingShown (headThen k (λ id status index from list. wholeOf kind id status index community size (eqb list pdu && eqb pdu end && eqb end (length s)) (bindingsFrom kind s list 16 from)))
+          → DatagramShown (headThen k (λ id status index from list. wholeOf kind id status index community size (eqb list pdu && eqb pdu end && eqb end (length s)) (bindingsFrom kind s list 16 from)))
       mid kind community size at pdu end w (Head.Refused n) v l = tt
       mid kind community size at pdu end w (Head.Found id status index from list) v l =
           ended-shown kind id status index community size at pdu end from list w v (eqb list pdu && eqb pdu end && eqb end (length s)) refl (bindingsFrom kind s list 16 from)
           (bindings-shown kind list (omega (arith, w .0, w .1)) 16 from (v .0))
 
-      go : (k : Opening) → OpeningShown k → ReadingShown (openingThen k (pduOf s))
+      go : (k : Opening) → OpeningShown k → DatagramShown (openingThen k (pduOf s))
       go (Opening.Refused n) w = tt
       go (Opening.Opened kind community size at pdu end) w =
           mid kind community size at pdu end w (headIn kind s at pdu) (head-shown kind at pdu (omega (arith, w .0, w .1))) (head-tells kind s at pdu)
@@ -308,5 +308,5 @@ module _ (s : List ℕ) (o : Octets s) where
       → Least s (anyOctets kind (part s community size) id status index (map (boundAt s) bs))
   read-least answers {kind} {id} {status} {index} {community} {size} {bs} e =
       let ys : List ℕ = anyOctets kind (part s community size) id status index (map (boundAt s) bs) in
-      let w : Shown s 0 (length s) ys = subst ReadingShown e (reading-shown answers) in
+      let w : Shown s 0 (length s) ys = subst DatagramShown e (datagram-shown answers) in
       subst (λ (u : List ℕ). Least u ys) (take-all (length s - 0) s (omega arith)) (w .least)

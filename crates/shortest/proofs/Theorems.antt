@@ -20,17 +20,17 @@ use Rattle.message.specs.Theorems as form
 use Rattle.message.proofs.FormLaws.{cond-cases}
 use Rattle.message.proofs.ReadBack.{any-reads-back}
 use Rattle.datagram.specs.Ber.{numbersFrom, firstOf, firstTwo, subIds}
-use Rattle.datagram.specs.Reading.{takesOf, Within, boundAt, Reading, refused, message, readDatagram, Given, givenBy, fromDatagram, handed}
+use Rattle.datagram.specs.Reading.{takesOf, Within, boundAt, DatagramRead, refused, message, readDatagram, Given, givenBy, fromDatagram, handed}
 use Rattle.datagram.specs.Writing.{nameWritten}
 use Rattle.datagram.proofs.NameLaws.{two-sub-ids}
 use Rattle.datagram.proofs.PlaceLaws.{name-back, name-below, call-read}
-use Rattle.datagram.proofs.ReadLaws.{AllWithin, ReadingTells, reading-tells}
+use Rattle.datagram.proofs.ReadLaws.{AllWithin, DatagramTells, datagram-tells}
 use Rattle.datagram.proofs.ReadBack.{anyOctets, AllCarriedBy, any-back}
 use Rattle.datagram.proofs.ReadableLaws.{all-carried, length-bound}
 use Rattle.shortest.specs.Theorems.{DatagramOf, Shortest, ShortestEqual, ShortestExists}
 use Rattle.shortest.proofs.InverseLaws.{below-fits}
 use Rattle.shortest.proofs.LeastLaws.{Least}
-use Rattle.shortest.proofs.RefusalLaws.{ReadingSure, reading-sure}
+use Rattle.shortest.proofs.RefusalLaws.{DatagramSure, datagram-sure}
 use Rattle.shortest.proofs.ShownLaws.{read-least}
 
 -- ## A message in its parts
@@ -140,9 +140,9 @@ unfolding fromDatagram givenBy
 handed-over answers room d =
     cond-cases (HandedOver answers room d) (ltb (length room) mostOctets) (λ t h. nothing 1 (omega arith) h)
     (λ t. cond-cases (HandedOver answers room d) (ltb mostOctets (length d)) (λ u h. nothing 20 (omega arith) h)
-    (λ u. read (ltb-false mostOctets (length d) u) (readDatagram answers d) refl (reading-sure d answers)))
+    (λ u. read (ltb-false mostOctets (length d) u) (readDatagram answers d) refl (datagram-sure d answers)))
   where
-    read : length d ≤ mostOctets → (x : Reading) → readDatagram answers d ≡ x → ReadingSure x → HandedOver answers room d (givenBy room d x)
+    read : length d ≤ mostOctets → (x : DatagramRead) → readDatagram answers d ≡ x → DatagramSure x → HandedOver answers room d (givenBy room d x)
     read l (refused n) e w = λ h. nothing n w h
     read l (message kind id status index community size bs) e w =
         let octets : List ℕ = messageOctets kind id status index (map (boundAt d) bs) in
@@ -166,10 +166,10 @@ canonical answers m x d w =
     let room : List ℕ = replicate {A = ℕ} mostOctets 0 in
     let (at, r, c) = w .read room (omega (arith, length-replicate {A = ℕ} mostOctets 0)) in
     let (kind, id, status, index, rs, e, short, fits, n, p) = subst (HandedOver answers room d) r (handed-over answers room d) refl in
-    made kind id status index at rs e c short fits (same-put room m (messageOctets kind id status index (map (boundAt d) rs)) n p) (subst (ReadingTells answers d) e (reading-tells answers d))
+    made kind id status index at rs e c short fits (same-put room m (messageOctets kind id status index (map (boundAt d) rs)) n p) (subst (DatagramTells answers d) e (datagram-tells answers d))
   where
     made : (kind id status index at : ℕ) (rs : List Binding) → readDatagram answers d ≡ message kind id status index at (length x) rs → part d at (length x) ≡ x → length d ≤ mostOctets → length m ≤ mostOctets
-        → m ≡ messageOctets kind id status index (map (boundAt d) rs) → ReadingTells answers d (message kind id status index at (length x) rs) → Canonical answers m x d
+        → m ≡ messageOctets kind id status index (map (boundAt d) rs) → DatagramTells answers d (message kind id status index at (length x) rs) → Canonical answers m x d
     made kind id status index at rs e c short fits own t =
         let bs : List Bound = map (boundAt d) rs in
         let ys : List ℕ = anyOctets kind x id status index bs in

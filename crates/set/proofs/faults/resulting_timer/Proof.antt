@@ -1,4 +1,4 @@
--- `set::faults::resulting_timer` meets its contract. The invariant: the number is the timer's after the first i steps. Assumes nothing.
+-- `set::faults::resulting_timer` meets its contract. The invariant: the number is the timer's after the first i kept bindings. Assumes nothing.
 use mathlib.Core.Path.{_≡_, sym, ap, _∙_}
 use mathlib.Core.Logic.{⊎-elim}
 use mathlib.Core.List.{List}
@@ -11,19 +11,19 @@ use Rattle.block.specs.Image.{contentOf}
 use Rattle.block.proofs.RoundLaws.{legal-valid, legal-sized}
 use Rattle.block.proofs.ValidParts.{valid-parts}
 use Rattle.answer.specs.Set.{gather, setCells, resultingCells}
-use Rattle.set.specs.Steps.{meantBy}
-use Rattle.set.specs.declared.judge.Step.{Step}
+use Rattle.set.specs.Kept.{meantBy}
+use Rattle.set.specs.declared.judge.Kept.{Kept}
 use Rattle.set.proofs.LeftLaws.{pastEnd}
-use Rattle.set.proofs.TimerLaws.{timerBy, timer-fits, timer-more}
+use Rattle.set.proofs.faults.TimerLaws.{timerBy, timer-fits, timer-more}
 use Rattle.set.proofs.faults.resulting_timer.Statement.{statement}
 use Rattle.set.proofs.faults.resulting_timer.Tie as tie
 
 abbrev Inv-loop : tie.InvT-loop
-Inv-loop block count place steps value₀ i₀ value i =
-    (i ≤ count) × (length steps ≡ 16) × ((s : List ℕ) → value ≡ timerIn (resultingCells (contentOf block) (meantBy s steps i)) place)
+Inv-loop block count place kept value₀ i₀ value i =
+    (i ≤ count) × (length kept ≡ 16) × ((s : List ℕ) → value ≡ timerIn (resultingCells (contentOf block) (meantBy s kept i)) place)
 
 abbrev μ-loop : tie.MeasureT-loop
-μ-loop block count place steps value₀ i₀ value i = count - i
+μ-loop block count place kept value₀ i₀ value i = count - i
 
 timer-requires : tie.Need-timer-requires Inv-loop μ-loop
 timer-requires c κs = (legal-sized _ (c .before .pre .0) .long, c .before .pre .3)
@@ -57,7 +57,7 @@ loop-again : tie.Need-loop-again Inv-loop μ-loop
 loop-again c =
     let l = c .before .before .before .before .before .loop in
     let a = c .before .before .before .before .before .before .before .before in
-    let q : Step = getD (a .args .t2) (l .i) pastEnd in
+    let q : Kept = getD (a .args .t2) (l .i) pastEnd in
     let d = contentOf (a .args .block .now) in
     let turned : c .if1 .value ≡ timerBy (a .args .place) (l .value) q =
     ⊎-elim (λ w. rw (w .0 .taken) (w .2)) (λ w. rw (w .0 .left) (w .1)) (c .if1 .came) in (

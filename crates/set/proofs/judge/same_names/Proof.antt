@@ -7,7 +7,7 @@ use lib.ListN.{length, drop, drop-of-length-le}
 use borrow.Author.Needs.{needs}
 use Rattle.octets.specs.Parts.{part, same}
 use Rattle.octets.proofs.PartLaws.{same-refl}
-use Rattle.set.proofs.AskedLaws.{length-part, ends-equal, ends-differ, other-length}
+use Rattle.set.proofs.judge.AskedLaws.{length-part, ends-equal, ends-differ, other-length}
 use Rattle.set.proofs.judge.same_names.Statement.{statement}
 use Rattle.set.proofs.judge.same_names.Tie as tie
 

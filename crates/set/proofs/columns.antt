@@ -1,0 +1,2 @@
+-- The laws about columns of the growing tables.
+pub mod ColumnLaws

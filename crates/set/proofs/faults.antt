@@ -1,0 +1,5 @@
+-- The laws about faults.
+pub mod StatusLaws
+pub mod PortSetLaws
+pub mod FaultLaws
+pub mod TimerLaws
