@@ -2,6 +2,7 @@
 #include "agent.h"
 
 #include <arpa/inet.h>
+#include <limits.h>
 #include <netinet/in.h>
 #include <signal.h>
 #include <sys/prctl.h>
@@ -165,47 +166,51 @@ bool round_trip(const struct agent *agent, const uint8_t *request, size_t length
     return got > 0;
 }
 
-/* Answers for ever; the process is ended by its parent, or with it. */
-static void serve(int socket, const struct bridge *bridge)
+/* A bridge's block in a file beside the program, from which the agent takes it. */
+static void write_block(const char *file, const struct bridge *bridge)
 {
-    static uint8_t block[RB_BLOCK_SIZE], request[DATAGRAM_MAX], room[RB_MESSAGE_MAX];
-    struct sockaddr_in from;
+    FILE *out = fopen(file, "wb");
 
-    memcpy(block, bridge->block, sizeof block);
-    for (;;) {
-        socklen_t from_len = sizeof from;
-        ssize_t got = recvfrom(socket, request, sizeof request, 0, (struct sockaddr *)&from, &from_len);
-        if (got < 0) {
-            continue;
-        }
-        rb_result result = rb_answer(block, sizeof block, request, (size_t)got, room, sizeof room);
-        if (sendto(socket, room, result.count, 0, (struct sockaddr *)&from, from_len) < 0) {
-            continue;
-        }
-    }
+    REQUIRE(out != NULL && fwrite(bridge->block, 1, RB_BLOCK_SIZE, out) == RB_BLOCK_SIZE && fclose(out) == 0,
+            "the block cannot be written: %s", file);
 }
 
-struct agent start_library_agent(const struct bridge *bridge)
+/* The port that the agent says that it listens on. */
+static uint16_t read_port(int from)
 {
-    struct sockaddr_in place = loopback(0);
-    socklen_t place_len = sizeof place;
-    int listening = socket(AF_INET, SOCK_DGRAM, 0);
+    char line[200] = "";
+    FILE *said = fdopen(from, "r");
+    const char *colon;
+
+    REQUIRE(said != NULL && fgets(line, sizeof line, said) != NULL, "the agent says nothing");
+    colon = strrchr(line, ':');
+    REQUIRE(colon != NULL && atoi(colon + 1) > 0, "the agent does not listen: %s", line);
+    return (uint16_t)atoi(colon + 1); /* the stream stays open, since the agent says its totals there */
+}
+
+struct agent start_agent(const char *program, const struct bridge *bridge)
+{
+    char block[PATH_MAX];
+    int said[2];
     pid_t process;
 
-    REQUIRE(listening >= 0 && bind(listening, (struct sockaddr *)&place, sizeof place) == 0, "no socket to answer on");
-    REQUIRE(getsockname(listening, (struct sockaddr *)&place, &place_len) == 0, "no port");
+    REQUIRE(snprintf(block, sizeof block, "%s.block", program) < (int)sizeof block, "the agent's path is too long");
+    write_block(block, bridge);
+    REQUIRE(pipe(said) == 0, "no pipe");
     fflush(NULL);
     process = fork();
     REQUIRE(process >= 0, "no process");
     if (process == 0) {
         prctl(PR_SET_PDEATHSIG, SIGKILL);
-        serve(listening, bridge);
+        dup2(said[1], STDERR_FILENO);
+        execl(program, program, "--listen", "127.0.0.1:0", "--state", block, (char *)NULL);
+        _exit(127);
     }
-    close(listening);
-    return connect_agent(process, ntohs(place.sin_port));
+    close(said[1]);
+    return connect_agent(process, read_port(said[0]));
 }
 
-void stop_library_agent(const struct agent *agent)
+void stop_agent(const struct agent *agent)
 {
     close(agent->socket);
     kill(agent->process, SIGKILL);

@@ -1,4 +1,4 @@
-/* Agents behind a UDP port of this machine: net-snmp's snmpd, and the library behind a socket of its own. */
+/* Agents behind a UDP port of this machine: net-snmp's snmpd, and the library's (host/agent). */
 #ifndef BENCH_AGENT_H
 #define BENCH_AGENT_H
 
@@ -34,9 +34,9 @@ bool snmp_answered(const struct datagram *answer);
 /* Connects to a port of this machine. */
 struct agent connect_agent(pid_t process, uint16_t port);
 
-/* Starts a process that answers requests on one bridge by rb_answer, and connects to it. */
-struct agent start_library_agent(const struct bridge *bridge);
-void stop_library_agent(const struct agent *agent);
+/* Starts the library's agent, which is this program, on a bridge, and connects to it. */
+struct agent start_agent(const char *program, const struct bridge *bridge);
+void stop_agent(const struct agent *agent);
 
 /* Sends a request and waits for the answer, up to two seconds; false where none came. */
 bool round_trip(const struct agent *agent, const uint8_t *request, size_t length, struct datagram *answer);

@@ -1,8 +1,9 @@
 /* Measures the library, the floor, an ordinary implementation and snmpd in one run, side by side.
  *
- *   bench [PORT PROCESS]      the UDP port and the process id of a running snmpd; without them it is left out
- *   bench calls WORKLOAD      only the calls of one workload, by its number, for callgrind to count
- *   bench batch NUMBER        only the check of one batch, likewise
+ *   bench AGENT [PORT PROCESS]   the library's agent (host/agent), and the UDP port and the process id of a running snmpd; without
+ *                                them it is left out
+ *   bench calls WORKLOAD         only the calls of one workload, by its number, for callgrind to count
+ *   bench batch NUMBER           only the check of one batch, likewise
  *
  * bench/run builds and starts this program; docs/PERFORMANCE.md tells how to read what it prints. */
 #define _DEFAULT_SOURCE
@@ -40,7 +41,6 @@ struct errand {
     char title[LINE];
     const struct agent *agent;
     struct datagram request;
-    bool snmp;
     double trip[ROUNDS], processor[ROUNDS];
 };
 
@@ -79,8 +79,8 @@ static struct job jobs[BRIDGES][WORKLOADS][IMPLEMENTATIONS];
 static double floor_rounds[ROUNDS];
 static uint8_t rooms[IMPLEMENTATIONS][RB_MESSAGE_MAX];
 
-/* Errands by kind and number of bindings, then the library's own. */
-enum { SNMP_GET_1, SNMP_NEXT_1, SNMP_GET_16, SNMP_NEXT_16, SNMP_ERRANDS, LIBRARY_ERRAND = SNMP_ERRANDS, ERRANDS };
+/* Errands to snmpd by kind and number of bindings, then the same to the library's agent. */
+enum { SNMP_GET_1, SNMP_NEXT_1, SNMP_GET_16, SNMP_NEXT_16, SNMP_ERRANDS, ERRANDS = 2 * SNMP_ERRANDS };
 static struct errand errands[ERRANDS];
 
 /* Processor time of one call, so that other programs on the machine do not count. */
@@ -148,24 +148,34 @@ static void prepare(struct bridge *bridge, const struct workload *workload, stru
     }
 }
 
-static void prepare_errands(const struct agent *snmpd, const struct agent *library)
+/* The first workload of a kind with so many bindings. */
+static const struct workload *workload_of(const struct bridge *bridge, enum rb_kind kind, unsigned bindings)
+{
+    size_t w = 0;
+
+    while (w < WORKLOADS && (bridge->workloads[w].kind != kind || bridge->workloads[w].bindings != bindings)) {
+        w++;
+    }
+    REQUIRE(w < WORKLOADS, "no such workload");
+    return &bridge->workloads[w];
+}
+
+static void prepare_errands(const struct agent *snmpd, const struct agent *agent, const struct bridge *bridge)
 {
     static const enum rb_kind kinds[] = {RB_GET, RB_GET_NEXT, RB_GET, RB_GET_NEXT};
     static const unsigned bindings[] = {1, 1, RB_BINDINGS_MAX, RB_BINDINGS_MAX};
-    const struct workload *num_ports = &bridges[0].workloads[1];
-    const struct octets *request = &num_ports->asked[0];
-    struct errand *own = &errands[LIBRARY_ERRAND];
 
     for (size_t i = 0; i < SNMP_ERRANDS; i++) {
+        const struct workload *workload = workload_of(bridge, kinds[i], bindings[i]);
+        struct errand *own = &errands[SNMP_ERRANDS + i];
+
         errands[i].agent = snmpd;
-        errands[i].snmp = true;
         errands[i].request = snmp_request(kinds[i], bindings[i]);
         snprintf(errands[i].title, LINE, "snmpd, %s %u", kinds[i] == RB_GET ? "get" : "get-next", bindings[i]);
+        own->agent = agent;
+        own->request = as_datagram(&workload->asked[0]);
+        snprintf(own->title, LINE, "agent, %s, %s", bridge->title, workload->title);
     }
-    own->agent = library;
-    own->request.length = request->count;
-    memcpy(own->request.octets, request->at, request->count);
-    snprintf(own->title, LINE, "library behind a socket: %s, %s", bridges[0].title, num_ports->title);
 }
 
 /* Each trip is timed by itself, so that a trip that another program disturbs does not count in the median. */
@@ -179,7 +189,7 @@ static void run_errand(struct errand *errand, size_t round)
         uint64_t start = now(CLOCK_MONOTONIC);
         bool came = round_trip(errand->agent, errand->request.octets, errand->request.length, &answer);
         trips[i] = (double)(now(CLOCK_MONOTONIC) - start);
-        REQUIRE(came && (!errand->snmp || snmp_answered(&answer)), "%s: no answer, or a fault", errand->title);
+        REQUIRE(came && snmp_answered(&answer), "%s: no answer, or a fault", errand->title);
     }
     errand->trip[round] = median(trips, TRIPS);
     errand->processor[round] = (double)(processor_time(errand->agent) - before) / TRIPS;
@@ -335,7 +345,7 @@ static int play_batch(size_t number)
 
 int main(int argc, char **argv)
 {
-    struct agent snmpd, library;
+    struct agent snmpd, agent;
 
     if (argc == 3 && strcmp(argv[1], "calls") == 0) {
         return play_one(strtoul(argv[2], NULL, 10));
@@ -343,6 +353,7 @@ int main(int argc, char **argv)
     if (argc == 3 && strcmp(argv[1], "batch") == 0) {
         return play_batch(strtoul(argv[2], NULL, 10));
     }
+    REQUIRE(argc == 2 || argc == 4, "usage: bench AGENT [PORT PROCESS]");
     make_bridge(&bridges[0], "4 ports, fresh", 4, false);
     make_bridge(&bridges[1], "4 ports, full", 4, true);
     make_bridge(&bridges[2], "64 ports, fresh", 64, false);
@@ -352,15 +363,15 @@ int main(int argc, char **argv)
             prepare(&bridges[b], &bridges[b].workloads[w], jobs[b][w]);
         }
     }
-    if (argc == 3) {
-        snmpd = connect_agent((pid_t)strtol(argv[2], NULL, 10), (uint16_t)strtoul(argv[1], NULL, 10));
+    if (argc == 4) {
+        snmpd = connect_agent((pid_t)strtol(argv[3], NULL, 10), (uint16_t)strtoul(argv[2], NULL, 10));
     }
-    library = start_library_agent(&bridges[0]);
-    prepare_errands(argc == 3 ? &snmpd : NULL, &library);
+    agent = start_agent(argv[1], &bridges[BRIDGES - 1]);
+    prepare_errands(argc == 4 ? &snmpd : NULL, &agent, &bridges[BRIDGES - 1]);
     for (size_t round = 0; round < ROUNDS; round++) {
         run_round(round);
     }
-    stop_library_agent(&library);
+    stop_agent(&agent);
     print_table();
     print_errands();
     print_depth();

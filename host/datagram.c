@@ -4,8 +4,9 @@
 
 #include "message.h"
 
-/* PDU tags of RFC 3416. */
-enum { PDU_GET = 0xA0, PDU_GET_NEXT = 0xA1, PDU_SET = 0xA3 };
+/* PDU tags of RFC 3416, and tags of BER. */
+enum { PDU_GET = 0xA0, PDU_GET_NEXT = 0xA1, PDU_RESPONSE = 0xA2, PDU_SET = 0xA3 };
+enum { BER_NUMBER = 0x02, BER_STRING = 0x04, BER_SEQUENCE = 0x30 };
 
 static uint8_t pdu_tag(uint8_t kind)
 {
@@ -43,4 +44,71 @@ uint32_t request_datagram(const struct octets *request, uint32_t id, const char 
     }
     *count = result.count;
     return result.number;
+}
+
+/* A datagram that is read from the left. */
+struct front {
+    const uint8_t *octets;
+    size_t count, at;
+};
+
+/* Takes a header of this tag; `length` is what it says, which may be more than there is. */
+static bool take_header(struct front *front, uint8_t tag, size_t *length)
+{
+    const uint8_t *header = front->octets + front->at;
+    size_t size;
+
+    if (front->count - front->at < 2 || header[0] != tag) {
+        return false;
+    }
+    size = header_size(header);
+    if (front->count - front->at < size || size > 2 + sizeof(uint32_t)) {
+        return false;
+    }
+    *length = size == 2 ? header[1] & 0x7Fu : 0;
+    for (size_t i = 2; i < size; i++) {
+        *length = *length << 8 | header[i];
+    }
+    front->at += size;
+    return true;
+}
+
+/* Takes a field of this tag that is whole. */
+static bool take_field(struct front *front, uint8_t tag, const uint8_t **contents, size_t *length)
+{
+    if (!take_header(front, tag, length) || front->count - front->at < *length) {
+        return false;
+    }
+    *contents = front->octets + front->at;
+    front->at += *length;
+    return true;
+}
+
+/* The last four octets of a number, which are those of an id. */
+static uint32_t id_of(const uint8_t *contents, size_t length)
+{
+    uint32_t id = 0;
+
+    for (size_t i = 0; i < length; i++) {
+        id = id << 8 | contents[i];
+    }
+    return id;
+}
+
+bool datagram_answers(const uint8_t *datagram, size_t count, uint32_t id, const char *community)
+{
+    struct front front = {datagram, count, 0};
+    const uint8_t *contents;
+    size_t length;
+
+    if (!take_header(&front, BER_SEQUENCE, &length) || !take_field(&front, BER_NUMBER, &contents, &length) ||
+        length != 1 || contents[0] != 1) {
+        return false;
+    }
+    if (!take_field(&front, BER_STRING, &contents, &length) || length != strlen(community) ||
+        memcmp(contents, community, length) != 0) {
+        return false;
+    }
+    return take_header(&front, PDU_RESPONSE, &length) && take_field(&front, BER_NUMBER, &contents, &length) &&
+           id_of(contents, length) == id;
 }

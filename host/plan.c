@@ -13,8 +13,16 @@ struct planning {
     const char *community;
     const struct script *script;
     size_t errors;
-    bool first; /* no command of the case stands before this one */
+    bool first;  /* no command of the case stands before this one */
+    size_t line; /* that starts the case */
+    bool asks;   /* the case asks a switch something; true before the first case too */
 };
+
+static void tell_at(struct planning *planning, size_t line, const char *words)
+{
+    fprintf(stderr, "%s:%zu: %s\n", planning->script->file, line, words);
+    planning->errors++;
+}
 
 /* What is asked of the library as a request must be one that a datagram can carry. */
 static bool check_request(const struct octets *request, const char *community, struct complaint *why)
@@ -74,22 +82,36 @@ static bool take_command(struct planning *planning, const struct command *comman
     case COMMAND_BRIDGE:
         return take_bridge(planning, line, why);
     case COMMAND_WALK:
+        planning->asks = true;
         return check_walk(&command->name, planning->community, why);
     case COMMAND_GET:
     case COMMAND_NEXT:
     case COMMAND_SET:
     case COMMAND_RAW:
+        planning->asks = true;
         return check_request(&command->octets, planning->community, why);
     default:
         return complain(why, "a switch cannot be asked this");
     }
 }
 
-static void take_case(struct planning *planning, const struct command *command, struct place after)
+/* A case that asks nothing would pass with nothing compared. */
+static void end_case(struct planning *planning)
 {
+    if (!planning->asks) {
+        tell_at(planning, planning->line, "the case asks a switch nothing");
+    }
+    planning->asks = true;
+}
+
+static void take_case(struct planning *planning, const struct command *command, size_t line, struct place after)
+{
+    end_case(planning);
     planning->plan->cases[planning->plan->count++] =
         (struct planned){.id = command->number, .title = command->title, .script = planning->script, .place = after};
     planning->first = true;
+    planning->line = line;
+    planning->asks = false;
 }
 
 static void take_script(struct planning *planning)
@@ -104,15 +126,16 @@ static void take_script(struct planning *planning)
             continue;
         }
         if (command.kind == COMMAND_CASE) {
-            take_case(planning, &command, place);
+            take_case(planning, &command, line.number, place);
             continue;
         }
         if (!take_command(planning, &command, &line, &why)) {
-            fprintf(stderr, "%s:%zu: %s\n", planning->script->file, line.number, why.words);
-            planning->errors++;
+            planning->asks = true; /* one error is enough */
+            tell_at(planning, line.number, why.words);
         }
         planning->first = false;
     }
+    end_case(planning);
 }
 
 static size_t tell(const char *file, const char *words)
@@ -123,7 +146,7 @@ static size_t tell(const char *file, const char *words)
 
 size_t plan_make(struct plan *plan, const struct submission *submission, const char *community)
 {
-    struct planning planning = {.plan = plan, .community = community};
+    struct planning planning = {.plan = plan, .community = community, .asks = true};
 
     *plan = (struct plan){.cases = calloc(submission->cases + 1, sizeof *plan->cases)};
     if (plan->cases == NULL) {

@@ -5,8 +5,8 @@
  *
  * What every call does is an equation with a definition (in the specs of the crates answer, block, reset, timers, tally, datagram, console, walks and
  * batch), proved for all octets, lengths and numbers. What the caller must still promise, because C cannot show it to the library:
- *   - each pointer is valid for as many octets as the length beside it says: `block`, `state` and `room` to read and write, the others to read; a
- *     pointer is not NULL, not even with the length 0;
+ *   - each pointer is valid for as many octets as the length beside it says: `block`, `state`, `room` and `list` to read and write, the others to
+ *     read; a pointer is not NULL, not even with the length 0;
  *   - block, request and room do not overlap, and neither do block and address, nor datagram, message, community and
  *     room, nor state, chunk and room;
  *   - a run's list is valid for `count` records and its mark for one octet, and the mark does not stand in the list;
@@ -256,7 +256,7 @@ typedef struct {
 
 /* Reads an SNMPv2c datagram (RFC 1901, RFC 3416, BER with any definite length) into a message at the start of the room; the room's other octets keep
  * theirs. rb_from_datagram takes get, get-next and set; rb_from_captured takes responses too. A room under 1,472 octets is 1. Returns 0, 1, 7, 8 or 16
- * to 20; what is refused writes nothing. What is read is a message that rb_answer refuses only with 1 or 3. */
+ * to 20; what is refused writes nothing. What rb_from_datagram reads is a message that rb_answer refuses only with 1 or 3. */
 rb_datagram rb_from_datagram(const uint8_t *datagram, size_t datagram_len, uint8_t *room, size_t room_len);
 rb_datagram rb_from_captured(const uint8_t *datagram, size_t datagram_len, uint8_t *room, size_t room_len);
 

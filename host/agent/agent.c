@@ -10,6 +10,7 @@
 #include <fcntl.h>
 #include <stdlib.h>
 #include <string.h>
+#include <termios.h>
 #include <unistd.h>
 
 #include "command.h"
@@ -80,6 +81,26 @@ static bool open_socket(struct agent *agent, const char *words, struct complaint
     return true;
 }
 
+/* A terminal line hands octets over as they are: none is echoed, changed or kept back. */
+static bool make_raw(int line)
+{
+    struct termios settings;
+
+    if (!isatty(line)) {
+        return true;
+    }
+    if (tcgetattr(line, &settings) != 0) {
+        return false;
+    }
+    settings.c_iflag &= ~(tcflag_t)(IGNBRK | BRKINT | PARMRK | ISTRIP | INLCR | IGNCR | ICRNL | IXON | IXOFF | INPCK);
+    settings.c_oflag &= ~(tcflag_t)OPOST;
+    settings.c_lflag &= ~(tcflag_t)(ECHO | ECHONL | ICANON | ISIG | IEXTEN);
+    settings.c_cflag = (settings.c_cflag & ~(tcflag_t)(CSIZE | PARENB)) | CS8;
+    settings.c_cc[VMIN] = 1;
+    settings.c_cc[VTIME] = 0;
+    return tcsetattr(line, TCSANOW, &settings) == 0;
+}
+
 static bool open_serial(struct agent *agent, const char *file, struct complaint *why)
 {
     if (strcmp(file, "-") == 0) {
@@ -88,7 +109,11 @@ static bool open_serial(struct agent *agent, const char *file, struct complaint 
         return true;
     }
     agent->serial_in = agent->serial_out = open(file, O_RDWR | O_NOCTTY);
-    return agent->serial_in >= 0 || complain(why, "%s cannot be opened: %s", file, strerror(errno));
+    if (agent->serial_in < 0) {
+        return complain(why, "%s cannot be opened: %s", file, strerror(errno));
+    }
+    return make_raw(agent->serial_in) ||
+           complain(why, "%s cannot be set to hand octets over as they are: %s", file, strerror(errno));
 }
 
 static bool start(struct agent *agent, const struct arguments *arguments, struct complaint *why)

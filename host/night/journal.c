@@ -36,6 +36,7 @@ static bool load(struct journal *journal, struct complaint *why)
     if (journal->text == NULL || got != (size_t)status.st_size) {
         return complain(why, "%s cannot be read", journal->file);
     }
+    journal->found = got;
     while (got > 0 && journal->text[got - 1] != '\n') {
         got--; /* a torn line */
     }
@@ -171,13 +172,22 @@ bool journal_publish(struct journal *journal, struct complaint *why)
            complain(why, "%s cannot be written: %s", journal->file, strerror(errno));
 }
 
+/* What another night appended after the reading would be cut off, and its cases started again. */
+static bool is_as_read(const struct journal *journal, struct complaint *why)
+{
+    struct stat status;
+
+    return (fstat(journal->out, &status) == 0 && (size_t)status.st_size == journal->found) ||
+           complain(why, "%s was written by another night while it was read", journal->file);
+}
+
 bool journal_continue(struct journal *journal, struct complaint *why)
 {
     journal->out = open(journal->file, O_WRONLY | O_APPEND);
     if (journal->out < 0) {
         return complain(why, "%s cannot be written: %s", journal->file, strerror(errno));
     }
-    if (!hold(journal, why)) {
+    if (!hold(journal, why) || !is_as_read(journal, why)) {
         return false;
     }
     return ftruncate(journal->out, (off_t)journal->size) == 0 ||

@@ -17,6 +17,7 @@ struct journal {
     int out; /* or -1, where it is only read */
     char *text;
     size_t size;       /* of the whole lines */
+    size_t found;      /* octets that the file had when it was read */
     uint64_t sequence; /* of the last line */
 };
 
@@ -31,7 +32,8 @@ bool journal_entry(const struct journal *journal, size_t *at, struct entry *entr
 bool journal_create(struct journal *journal, const char *file, struct complaint *why);
 bool journal_publish(struct journal *journal, struct complaint *why);
 
-/* Opens a journal that was read to append to it, and cuts a torn line off. One that another night holds is refused. */
+/* Opens a journal that was read to append to it, and cuts a torn line off. One that another night holds, or has written
+ * since it was read, is refused. */
 bool journal_continue(struct journal *journal, struct complaint *why);
 
 /* Appends a line; `evidence` has no line feed. */

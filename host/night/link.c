@@ -30,36 +30,50 @@ void link_close(struct link *link)
     close(link->socket);
 }
 
+/* A datagram of the switch that the library refuses: an answer all the same where it starts as the one to the last
+ * request. */
+static enum link_outcome judge_refused(struct link *link, uint32_t number, const uint8_t *datagram, size_t length,
+                                       uint8_t *answer, size_t *count)
+{
+    if (!datagram_answers(datagram, length, link->id, link->community)) {
+        link->unreadable++;
+        return LINK_SILENT;
+    }
+    link->refusal = number;
+    *count = length < RB_MESSAGE_MAX ? length : RB_MESSAGE_MAX;
+    memcpy(answer, datagram, *count);
+    return LINK_UNLIKE;
+}
+
 /* Judges a datagram that came; what is no answer to the last request is counted and dropped. */
-static bool is_answer(struct link *link, const struct peer *from, const uint8_t *datagram, size_t length,
-                      uint8_t *answer, size_t *count)
+static enum link_outcome judge(struct link *link, const struct peer *from, const uint8_t *datagram, size_t length,
+                               uint8_t *answer, size_t *count)
 {
     rb_datagram read;
     uint32_t id = 0;
 
     if (!peer_is(from, &link->peer)) {
         link->strange++;
-        return false;
+        return LINK_SILENT;
     }
     read = rb_from_captured(datagram, length, answer, RB_MESSAGE_MAX);
     if (read.number != RB_ANSWERED || answer[KIND_AT] != RB_RESPONSE) {
-        link->unreadable++;
-        return false;
+        return judge_refused(link, read.number, datagram, length, answer, count);
     }
     if (read.community_len != strlen(link->community) ||
         memcmp(datagram + read.community_at, link->community, read.community_len) != 0) {
         link->foreign++;
-        return false;
+        return LINK_SILENT;
     }
     for (size_t i = 0; i < ID_SIZE; i++) {
         id = id << 8 | answer[ID_AT + i];
     }
     if (id != link->id) {
         link->late++;
-        return false;
+        return LINK_SILENT;
     }
     *count = read.count;
-    return true;
+    return LINK_ANSWERED;
 }
 
 static long milliseconds(void)
@@ -70,7 +84,7 @@ static long milliseconds(void)
     return (long)now.tv_sec * 1000 + now.tv_nsec / 1000000;
 }
 
-static bool wait_answer(struct link *link, uint8_t *answer, size_t *count)
+static enum link_outcome wait_answer(struct link *link, uint8_t *answer, size_t *count)
 {
     static uint8_t datagram[DATAGRAM_MAX];
     long end = milliseconds() + link->timeout, left;
@@ -78,36 +92,40 @@ static bool wait_answer(struct link *link, uint8_t *answer, size_t *count)
     while ((left = end - milliseconds()) >= 0) {
         struct pollfd waits = {.fd = link->socket, .events = POLLIN};
         struct peer from = {.length = sizeof from.address};
+        enum link_outcome outcome;
         ssize_t got;
 
         if (poll(&waits, 1, (int)left) <= 0) {
             continue; /* the time is over, or a signal came */
         }
         got = recvfrom(link->socket, datagram, sizeof datagram, 0, (struct sockaddr *)&from.address, &from.length);
-        if (got >= 0 && is_answer(link, &from, datagram, (size_t)got, answer, count)) {
-            return true;
+        outcome = got < 0 ? LINK_SILENT : judge(link, &from, datagram, (size_t)got, answer, count);
+        if (outcome != LINK_SILENT) {
+            return outcome;
         }
     }
-    return false;
+    return LINK_SILENT;
 }
 
-bool link_ask(struct link *link, const struct octets *request, uint8_t answer[RB_MESSAGE_MAX], size_t *count)
+enum link_outcome link_ask(struct link *link, const struct octets *request, uint8_t answer[RB_MESSAGE_MAX],
+                           size_t *count)
 {
     static uint8_t datagram[RB_MESSAGE_MAX];
     unsigned tries = request_kind(request) == RB_SET ? 1 : 1 + link->retries;
+    enum link_outcome outcome = LINK_SILENT;
     size_t length;
 
-    for (; tries > 0 && link->ids_left > 0; tries--) {
+    for (; outcome == LINK_SILENT && tries > 0 && link->ids_left > 0; tries--) {
         link->id++;
         link->ids_left--;
         if (request_datagram(request, link->id, link->community, datagram, &length) != RB_ANSWERED) {
-            return false; /* every request was tried before the night */
+            return LINK_SILENT; /* every request was tried before the night */
         }
         sendto(link->socket, datagram, length, 0, (struct sockaddr *)&link->peer.address, link->peer.length);
-        if (wait_answer(link, answer, count)) {
-            memcpy(answer + ID_AT, request->at + ID_AT, ID_SIZE);
-            return true;
-        }
+        outcome = wait_answer(link, answer, count);
     }
-    return false;
+    if (outcome == LINK_ANSWERED) {
+        memcpy(answer + ID_AT, request->at + ID_AT, ID_SIZE);
+    }
+    return outcome;
 }

@@ -18,12 +18,21 @@ struct link {
     size_t strange;    /* from another source */
     size_t foreign;    /* of another community */
     size_t unreadable; /* that are no response */
+    uint32_t refusal;  /* of the last answer, where the library has no message for it */
 };
+
+enum link_outcome {
+    LINK_SILENT,   /* no answer came */
+    LINK_ANSWERED, /* the answer is a message, with the request's own id */
+    LINK_UNLIKE    /* the switch answered with a datagram that the library has no message for: its first octets */
+};
+
+/* Asks the switch. */
 
 bool link_open(struct link *link, const char *words, struct complaint *why);
 
-/* Asks the switch. False where no answer comes; else `answer` is a message, with the request's own id. */
-bool link_ask(struct link *link, const struct octets *request, uint8_t answer[RB_MESSAGE_MAX], size_t *count);
+enum link_outcome link_ask(struct link *link, const struct octets *request, uint8_t answer[RB_MESSAGE_MAX],
+                           size_t *count);
 
 void link_close(struct link *link);
 

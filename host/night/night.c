@@ -139,12 +139,13 @@ static int with_submission(const struct submission *submission, struct link *lin
     return status;
 }
 
-static bool read_number(const char *words, const char *what, uint64_t most, uint64_t *number)
+static bool read_number(const char *words, const char *what, uint64_t least, uint64_t most, uint64_t *number)
 {
-    if (text_number(report_words(words), most, number)) {
+    if (text_number(report_words(words), most, number) && *number >= least) {
         return true;
     }
-    fprintf(stderr, "night: %s is no number up to %llu: %s\n", what, (unsigned long long)most, words);
+    fprintf(stderr, "night: %s is no number from %llu to %llu: %s\n", what, (unsigned long long)least,
+            (unsigned long long)most, words);
     return false;
 }
 
@@ -183,9 +184,9 @@ static int run_night(struct arguments *arguments)
     uint64_t timeout, retries, wait;
     int status = STATUS_UNREADABLE;
 
-    if (!is_complete(arguments) || !read_number(arguments->timeout, "--timeout", 3600000, &timeout) ||
-        !read_number(arguments->retries, "--retries", 100, &retries) ||
-        !read_number(arguments->wait, "--wait", 86400, &wait)) {
+    if (!is_complete(arguments) || !read_number(arguments->timeout, "--timeout", 1, 3600000, &timeout) ||
+        !read_number(arguments->retries, "--retries", 0, 100, &retries) ||
+        !read_number(arguments->wait, "--wait", 0, 86400, &wait)) {
         fputs(usage, stderr);
         return STATUS_UNREADABLE;
     }
@@ -210,7 +211,7 @@ static int report_night(const char *journal, void (*print)(FILE *out, const stru
     int status = STATUS_PASSED;
 
     if (journal == NULL || print == NULL) {
-        fputs(usage, stderr);
+        fprintf(stderr, "night: %s is missing\n%s", journal == NULL ? "--journal" : "the form of the report", usage);
         return STATUS_UNREADABLE;
     }
     if (!record_read(&record, journal, &why)) {

@@ -46,7 +46,8 @@ static bool find(struct text evidence, const char *word, struct text *value)
 /* True for a word that octets in hex follow in the evidence. */
 static bool is_hex_word(struct text word)
 {
-    return text_is(word, "request") || text_is(word, "reference") || text_is(word, "switch");
+    return text_is(word, "request") || text_is(word, "reference") || text_is(word, "switch") ||
+           text_is(word, "datagram");
 }
 
 /* Evidence tells its words for people after its octets in hex. */
@@ -62,6 +63,13 @@ static struct text words_of(struct text evidence)
     return evidence;
 }
 
+struct text report_not_run(const struct record *record)
+{
+    return record->reason.at != NULL
+               ? record->reason
+               : report_words("what a broken case or an earlier run left is needed, or it was not reached");
+}
+
 char *report_reason(const struct record *record, size_t place)
 {
     struct text words = record->told[place].evidence;
@@ -73,9 +81,7 @@ char *report_reason(const struct record *record, size_t place)
         return NULL;
     }
     if (record->cases[place].state == RB_NOT_RUN) {
-        words = record->reason.at != NULL
-                    ? record->reason
-                    : report_words("it needs what a broken or earlier case left, or was not reached");
+        words = report_not_run(record);
     } else if (record->cases[place].state == RB_RUNNING) {
         words = report_words("the run is in this case, or was interrupted in it");
     } else {
@@ -128,9 +134,48 @@ char *report_message(struct text evidence, const char *word)
     return said;
 }
 
+/* The octets of the character at `at`, of two to four octets in UTF-8, that may stand in XML; 0 where there is none. */
+static size_t character_size(const unsigned char *at, size_t left)
+{
+    size_t size = at[0] >= 0xF0 ? 4 : at[0] >= 0xE0 ? 3 : 2;
+    static const uint32_t least[] = {0, 0, 0x80, 0x800, 0x10000};
+    uint32_t code = at[0] & (0xFFu >> (size + 1));
+
+    if (at[0] < 0xC0 || at[0] >= 0xF8 || left < size) {
+        return 0;
+    }
+    for (size_t i = 1; i < size; i++) {
+        if ((at[i] & 0xC0) != 0x80) {
+            return 0;
+        }
+        code = code << 6 | (at[i] & 0x3Fu);
+    }
+    if (code < least[size] || code > 0x10FFFF || (code >= 0xD800 && code < 0xE000) || (code & 0xFFFE) == 0xFFFE) {
+        return 0;
+    }
+    return size;
+}
+
+/* Prints the character at `at`, or the sign for what is none, and returns how many octets it took. */
+static size_t print_character(FILE *out, const char *at, const char *end)
+{
+    size_t size = character_size((const unsigned char *)at, (size_t)(end - at));
+
+    if (size == 0) {
+        fputs("\xEF\xBF\xBD", out); /* U+FFFD */
+        return 1;
+    }
+    fwrite(at, 1, size, out);
+    return size;
+}
+
 void report_escaped(FILE *out, struct text text)
 {
     for (const char *c = text.at; c < text.end; c++) {
+        if ((unsigned char)*c >= 0x80) {
+            c += print_character(out, c, text.end) - 1;
+            continue;
+        }
         switch (*c) {
         case '<':
             fputs("&lt;", out);

@@ -16,6 +16,9 @@ void report_html(FILE *out, const struct record *record);
 /* "passed", "failed", "broken" or "not run". */
 const char *report_class(const struct record *record, size_t place);
 
+/* Why cases did not run. */
+struct text report_not_run(const struct record *record);
+
 /* Why a case failed, broke or did not run, in one line; the words are the caller's to free. */
 char *report_reason(const struct record *record, size_t place);
 
@@ -23,7 +26,7 @@ char *report_reason(const struct record *record, size_t place);
  * The words are the caller's to free. */
 char *report_message(struct text evidence, const char *word);
 
-/* Prints a text so that markup and control characters in it are only text. */
+/* Prints a text so that markup and control characters in it are only text, and octets that are no UTF-8 show as such. */
 void report_escaped(FILE *out, struct text text);
 struct text report_words(const char *words);
 

@@ -66,6 +66,8 @@ static void print_facts(FILE *out, const struct record *record)
     print_row(out, "Dropped datagrams", report_words(words));
     if (record->reason.at != NULL) {
         print_row(out, "Stopped, because", record->reason);
+    } else if (record_report(record).not_run > 0) {
+        print_row(out, "Not run, because", report_not_run(record));
     }
     fputs("</table>\n", out);
 }
@@ -97,6 +99,7 @@ static void print_case(FILE *out, const struct record *record, size_t place)
         print_message(out, "request", told->evidence);
         print_message(out, "reference", told->evidence);
         print_message(out, "switch", told->evidence);
+        print_message(out, "datagram", told->evidence);
     }
 }
 

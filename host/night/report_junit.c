@@ -12,6 +12,9 @@ static void print_problem(FILE *out, const struct record *record, size_t place)
     char *reference = report_message(record->told[place].evidence, "reference");
     char *other = report_message(record->told[place].evidence, "switch");
 
+    if (other == NULL) {
+        other = report_message(record->told[place].evidence, "datagram");
+    }
     fprintf(out, "<%s type=\"%s\" message=\"", element, report_class(record, place));
     report_escaped(out, report_words(reason == NULL ? "" : reason));
     fputs("\">", out);

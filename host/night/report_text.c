@@ -43,6 +43,7 @@ static void print_case(FILE *out, const struct record *record, size_t place)
     if (record->cases[place].state == RB_FAILED) {
         print_message(out, told->evidence, "reference");
         print_message(out, told->evidence, "switch");
+        print_message(out, told->evidence, "datagram");
     }
 }
 
@@ -60,7 +61,9 @@ void report_text(FILE *out, const struct record *record)
             print_case(out, record, i);
         }
     }
-    if (record->reason.at != NULL) {
-        fprintf(out, "not run, because: %.*s\n", (int)(record->reason.end - record->reason.at), record->reason.at);
+    if (report.not_run > 0) {
+        struct text reason = report_not_run(record);
+
+        fprintf(out, "not run, because: %.*s\n", (int)(reason.end - reason.at), reason.at);
     }
 }

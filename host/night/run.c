@@ -89,14 +89,18 @@ static void note_words(struct night *night, const char *words, const struct octe
     fclose(out);
 }
 
+/* What the switch answered is a message, or a datagram that the library has no message for. */
 static void note_difference(struct night *night, const struct octets *request, const struct reply *reply,
-                            const uint8_t *answer, size_t count)
+                            enum link_outcome outcome, const uint8_t *answer, size_t count)
 {
     FILE *out = start_evidence(night);
 
     print_hex(out, "request", request->at, request->count);
     print_hex(out, "reference", night->player.bridge.room, reply->count);
-    print_hex(out, "switch", answer, count);
+    print_hex(out, outcome == LINK_UNLIKE ? "datagram" : "switch", answer, count);
+    if (outcome == LINK_UNLIKE) {
+        fprintf(out, "(the library refuses its datagram with %" PRIu32 ") ", night->link->refusal);
+    }
     print_place(out, night);
     fclose(out);
 }
@@ -106,6 +110,7 @@ static void ask_switch(struct player *player, const struct octets *request, cons
 {
     static uint8_t answer[RB_MESSAGE_MAX];
     struct night *night = (struct night *)player;
+    enum link_outcome outcome;
     size_t count;
 
     if (reply->number != RB_ANSWERED) {
@@ -115,12 +120,16 @@ static void ask_switch(struct player *player, const struct octets *request, cons
         note_words(night, words, request);
         night->refused = true;
         player->stopped = true;
-    } else if (!link_ask(night->link, request, answer, &count)) {
+        return;
+    }
+    outcome = link_ask(night->link, request, answer, &count);
+    if (outcome == LINK_SILENT) {
         note_words(night, "the switch gives no answer", request);
         night->silent = true;
         player->stopped = true;
-    } else if (!night->differs && (count != reply->count || memcmp(answer, player->bridge.room, count) != 0)) {
-        note_difference(night, request, reply, answer, count);
+    } else if (!night->differs && (outcome == LINK_UNLIKE || count != reply->count ||
+                                   memcmp(answer, player->bridge.room, count) != 0)) {
+        note_difference(night, request, reply, outcome, answer, count);
         night->differs = true;
     }
 }
@@ -189,7 +198,7 @@ static bool probe(struct night *night)
     request_start(&request, RB_GET, 0);
     request_add(&request, &ports, NULL);
     do {
-        if (link_ask(night->link, &request, answer, &count)) {
+        if (link_ask(night->link, &request, answer, &count) != LINK_SILENT) {
             return true;
         }
     } while (now() < end && !interrupted);

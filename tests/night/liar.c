@@ -3,7 +3,7 @@
  *   liar PORT AGENT_PORT MODE N
  *
  * Sets are counted from 1, since they are never sent twice. From the N-th set on: `lie` changes the last octet of each
- * answer, `silent` answers nothing. `deaf` drops the answer to the N-th set, `forgets` the answer to the first get
+ * answer, `odd` makes its last content, a number of one octet, one of TimeTicks, `silent` answers nothing. `deaf` drops the answer to the N-th set, `forgets` the answer to the first get
  * after it, and `late` sends that one 4 seconds later. Each one: `repeat` sends the answer twice, `elsewhere` first sends
  * another one from another port, `foreign` first one of another community. */
 #define _POSIX_C_SOURCE 200809L
@@ -17,8 +17,9 @@
 #include <time.h>
 #include <unistd.h>
 
-/* Where the community and the PDU start in a datagram under 128 octets whose community is public; the tag of a set. */
-enum { COMMUNITY_AT = 7, PDU_AT = 13, PDU_SET = 0xA3, DATAGRAM_MAX = 65536 };
+/* Where the community and the PDU start in a datagram under 128 octets whose community is public; the tags of a set and of a content that no
+ * message has. */
+enum { COMMUNITY_AT = 7, PDU_AT = 13, PDU_SET = 0xA3, TIME_TICKS = 0x43, DATAGRAM_MAX = 65536 };
 
 static struct sockaddr_in loopback(int port)
 {
@@ -68,6 +69,8 @@ static void answer(const char *mode, long n, long from, bool set, long gets, uns
         nanosleep(&(struct timespec){.tv_sec = 4}, NULL);
     } else if (strcmp(mode, "lie") == 0 && n >= from) {
         octets[count - 1] ^= 1;
+    } else if (strcmp(mode, "odd") == 0 && n >= from) {
+        octets[count - 3] = TIME_TICKS;
     } else if (strcmp(mode, "repeat") == 0) {
         send_back(front, octets, count, to);
     } else if (strcmp(mode, "elsewhere") == 0) {
