@@ -26,6 +26,6 @@ deviceUnder x = cond (eqb x 1) everyDevice (cond (eqb x 3) sourceRouting transpa
 abbrev pub has : ℕ → ObjectType → Bool
 has d o = eqb (o .device) everyDevice || eqb (o .device) d
 
--- Type: "2, transparent-only" (paper 01), and on device 2 "with Type 3"
+-- Type: "= 2" (paper 01, "The objects"), and on device 2 "with Type 3" (E12)
 abbrev pub typeOf : ℕ → ℕ
 typeOf d = cond (eqb d sourceRouting) 3 2

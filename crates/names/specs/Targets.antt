@@ -1,4 +1,5 @@
--- What a name leads to: the object type that is a prefix of it, and the key that its rest stands for (paper 01, "The objects"), on a device that has the object (E12). Assumes nothing.
+-- What a name leads to: the object type of the device that is a prefix of it (E12), and the key that its rest stands for (paper 01, "The objects").
+-- Assumes nothing.
 use Prim.Native.Nat.{ℕ, _+_}
 use mathlib.Core.Bool.{cond}
 use mathlib.Core.Option.{Option, none, some}
@@ -25,7 +26,7 @@ abbrev pub targetUnder : ℕ → List ℕ → Option ℕ → Target
 targetUnder n name none = Unknown
 targetUnder n name (some i) = targetAt i (keyIn n (objectAt i .shape) (restOf i name))
 
--- a place whose object the model's device has: another object "is no prefix there"
+-- a place whose object the model's device has; there an object that it has not is a prefix of no name
 abbrev pub onModel : Model → Option ℕ → Option ℕ
 onModel m none = none
 onModel m (some i) = cond (has (m .device) (objectAt i)) (some i) none
