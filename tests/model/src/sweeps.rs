@@ -157,8 +157,7 @@ pub fn every_pair(library: Library, random: &mut Random, tally: &mut Tally) -> S
             let groups = [0, 1, 2, 3, 4].map(|number| vec![state(number)]).into_iter();
             let both = [1, 2, 3].map(|of| [vec![state(of), number.clone()], vec![number.clone(), state(of)]]).concat();
             let all: Vec<Vec<Binding>> = groups.chain(both).chain([vec![number.clone()]]).collect();
-            let columns =
-                [Object::PairLowPort, Object::PairHighPort, Object::PairBridgeNum, Object::PairBridgeState];
+            let columns = [Object::PairLowPort, Object::PairHighPort, Object::PairBridgeNum, Object::PairBridgeState];
             let asked = columns.map(|column| bind(column, &index, Content::Null)).to_vec();
             all.into_iter().map(move |group| {
                 let get = Step::call(message(Kind::Get, asked.clone()));
