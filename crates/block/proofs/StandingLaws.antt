@@ -3,15 +3,15 @@ use mathlib.Core.Path.{_≡_, sym, ap, _∙_}
 use mathlib.Core.List.{List, _++_, append-assoc}
 use Prim.Native.Nat.{ℕ, _+_, _*_, _^_, _≤_, _<_}
 use native.Mathlib.Omega.{arith}
-use lib.ListN.{length, getD, take, drop, take-append-drop, length-map, List·getD-map}
+use lib.ListN.{length, getD, take, drop, take-append-drop, List·getD-map}
 use lib.Seq.{length-take-le}
-use Rattle.octets.specs.Numbers.{beAt, beOctets}
+use Rattle.octets.specs.Numbers.{beAt}
 use Rattle.octets.specs.Parts.{patch}
 use Rattle.octets.proofs.NumberLaws.{Octets, beAt-left, beAt-lt}
 use Rattle.block.specs.Layout.{blockSize}
 use Rattle.block.specs.Image.{contentOf}
 use Rattle.block.specs.Lookup.{Sized, keysOf}
-use Rattle.block.specs.Tables.{Table, vlan, static, pair, rowsOf, most, standing, deviceOf, roomIn}
+use Rattle.block.specs.Tables.{Table, vlan, static, pair, rowsOf, most, standing}
 use Rattle.block.proofs.RowLaws.{getD-rowsAt, row-inside}
 use Rattle.block.proofs.HalvingLaws.{keysAt}
 use Rattle.block.proofs.ReadLaws.{many-in, keys-are}

@@ -1,10 +1,7 @@
 -- `block::changes::remove_row` meets its contract: the row is no longer counted, and taken out. Assumes nothing.
-use mathlib.Core.Path.{_≡_, ap}
-use Prim.Native.Nat.{_≤_, _<_}
+use mathlib.Core.Path.{_≡_}
 use native.Mathlib.Omega.{arith}
 use lib.ListN.{length}
-use Rattle.block.specs.Layout.{blockSize}
-use Rattle.block.specs.Rows.{HasRow}
 use Rattle.block.specs.Image.{contentOf}
 use Rattle.block.specs.Tables.{rowsOf}
 use Rattle.block.proofs.ChangeLaws.{image-rows, image-out, uncounted-row}

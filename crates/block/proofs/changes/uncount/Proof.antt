@@ -1,5 +1,4 @@
 -- `block::changes::uncount` meets its contract, table by table. Assumes nothing.
-use native.Mathlib.Omega.{arith}
 use Rattle.block.specs.Tables.{uncounted}
 use borrow.Author.Needs.{needs}
 use Rattle.block.proofs.changes.uncount.Statement.{statement}

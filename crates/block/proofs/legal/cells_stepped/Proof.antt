@@ -1,7 +1,7 @@
 -- `block::legal::cells_stepped` meets its contract. The invariant: the answer is that of the cells left. Assumes nothing.
 use mathlib.Core.Path.{_≡_, refl, sym, _∙_}
-use mathlib.Core.Bool.{Bool, _&&_}
-use Prim.Native.Nat.{ℕ, _+_, _%_, _≤_, _-_}
+use mathlib.Core.Bool.{_&&_}
+use Prim.Native.Nat.{_+_, _%_, _≤_, _-_}
 use native.Mathlib.Omega.{arith}
 use lib.ListN.{length, take, drop}
 use borrow.Author.Tests.{eq-eqb, ne-eqb}

@@ -1,6 +1,5 @@
 -- `block::legal::cells_taken` meets its contract: at each `return` the tests made so far decide. Assumes nothing.
 use borrow.Author.Tests.{not-true, not-false}
-use native.Mathlib.Omega.{arith}
 use Rattle.names.proofs.RuleLaws.{step-in-positive}
 use Rattle.block.proofs.LegalLaws.{takes-tests}
 use borrow.Author.Needs.{needs}
@@ -19,11 +18,6 @@ returns c =
 step-in-requires : tie.Need-step-in-requires
 step-in-requires c κs = search needs
 
-cells-stepped-requires : tie.Need-cells-stepped-requires
-cells-stepped-requires c κs =
-    let s = c .before .before .before .before in
-    (s .pre .0, s .pre .1, rw (c .step-in .ensures) (step-in-positive (s .args .edition) (s .args .o) (s .pre .2)))
-
 returns-2 : tie.Need-returns-2
 returns-2 c =
     let d = c .before .before .before in
@@ -36,6 +30,11 @@ returns-2 c =
       ← c .before .cells-stepped .ensures,
       not-true (c .before .cells-stepped .result) (c .if2 .taken),
     )
+
+cells-stepped-requires : tie.Need-cells-stepped-requires
+cells-stepped-requires c κs =
+    let s = c .before .before .before .before in
+    (s .pre .0, s .pre .1, rw (c .step-in .ensures) (step-in-positive (s .args .edition) (s .args .o) (s .pre .2)))
 
 cells-framed-requires : tie.Need-cells-framed-requires
 cells-framed-requires c κs = search needs

@@ -1,10 +1,10 @@
 -- `block::legal::statics_ascend` meets its contract. The invariant: the answer is that of the rows left, from the least key behind the last word on. Assumes nothing.
 use mathlib.Core.Path.{_≡_, refl, sym, ap, subst, _∙_}
-use mathlib.Core.Bool.{Bool, true, false, _&&_}
+use mathlib.Core.Bool.{_&&_}
 use Prim.Native.Nat.{ℕ, _+_, _*_, _^_, _≤_, _<_, _-_}
 use native.Mathlib.Omega.{arith}
 use lib.Dec.{leb}
-use lib.ListN.{length, drop, getD}
+use lib.ListN.{drop, getD}
 use borrow.Author.Tests.{leb-true}
 use Rattle.octets.proofs.BoolLaws.{both}
 use Rattle.block.specs.Image.{contentOf}

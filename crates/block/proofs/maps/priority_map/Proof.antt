@@ -1,6 +1,5 @@
 -- `block::maps::priority_map` meets its contract. Assumes nothing.
 use mathlib.Core.Path.{_∙_}
-use native.Mathlib.Omega.{arith}
 use borrow.Author.Needs.{needs}
 use Rattle.block.proofs.maps.priority_map.Statement.{statement}
 use Rattle.block.proofs.maps.priority_map.Tie as tie

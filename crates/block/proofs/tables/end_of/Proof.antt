@@ -2,7 +2,6 @@
 use mathlib.Core.Path.{_≡_, _∙_}
 use Prim.Native.Nat.{_+_, _*_, _≤_}
 use native.Mathlib.Omega.{arith}
-use lib.ListN.{length}
 use Rattle.octets.specs.Numbers.{beAt}
 use Rattle.block.specs.Layout.{blockSize}
 use Rattle.block.specs.Tables.{standing}

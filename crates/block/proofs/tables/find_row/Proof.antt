@@ -1,7 +1,6 @@
 -- `block::tables::find_row` meets its contract: halving finds the key among ascending rows. Assumes nothing.
 use mathlib.Core.Path.{_≡_, ap, subst, _∙_}
 use Prim.Native.Nat.{ℕ}
-use native.Mathlib.Omega.{arith}
 use Rattle.block.specs.Image.{contentOf}
 use Rattle.block.specs.Lookup.{Ascending, keysOf}
 use Rattle.block.specs.Tables.{rowsOf}

@@ -1,9 +1,7 @@
 -- `block::tables::first_key_from` meets its contract: the first key that is at least a number is at the place of that number. Assumes nothing.
-use mathlib.Core.Path.{_≡_, sym, ap, _∙_}
+use mathlib.Core.Path.{sym}
 use native.Mathlib.Omega.{arith}
-use lib.ListN.{length, getD, length-map}
-use Rattle.names.specs.Index.{answered}
-use Rattle.names.specs.declared.Key.the-variants.{At}
+use lib.ListN.{length-map}
 use Rattle.block.specs.Image.{contentOf}
 use Rattle.block.specs.Lookup.{keysOf}
 use Rattle.block.specs.Tables.{rowsOf}

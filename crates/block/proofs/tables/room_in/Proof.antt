@@ -1,6 +1,5 @@
 -- `block::tables::room_in` meets its contract. Assumes nothing.
 use borrow.Author.Tests.{eq-eqb, ne-eqb}
-use Rattle.block.specs.Tables.{deviceOf}
 use borrow.Author.Needs.{needs}
 use Rattle.block.proofs.tables.room_in.Statement.{statement}
 use Rattle.block.proofs.tables.room_in.Tie as tie

@@ -1,5 +1,4 @@
 -- `block::tables::row_count` meets its contract. Assumes nothing.
-use mathlib.Core.Path.{sym, _∙_}
 use native.Mathlib.Omega.{arith}
 use Rattle.block.proofs.StandingLaws.{stands, many-rows}
 use borrow.Author.Needs.{needs}
