@@ -98,7 +98,7 @@ fn every_octet_of(library: Library, (edition, device): (u32, u32), random: &mut 
 pub fn every_range(library: Library, random: &mut Random, tally: &mut Tally) -> Swept {
     let asked = message(Kind::Get, vec![bind(Object::NumPorts, &[0], Content::Null)]);
     let ends = [false, true];
-    let kinds = DEVICES.into_iter().flat_map(|device| EDITIONS.into_iter().map(move |edition| (device, edition)));
+    let kinds = DEVICES.flat_map(|device| EDITIONS.map(move |edition| (device, edition)));
     for ((device, edition), at_high) in kinds.flat_map(|kind| ends.into_iter().map(move |end| (kind, end))) {
         let mut start = Bridge::fresh(9, edition, device, &start::address(random)).expect("1 to 64 ports");
         for (object, numbers) in &mut start.settings {
