@@ -7,6 +7,7 @@ use Prim.Native.Nat.{ℕ, _≤_}
 use native.Mathlib.Omega.{arith}
 use lib.ListN.{length, getD}
 use Rattle.octets.specs.Parts.{part}
+use Rattle.octets.proofs.PartLaws.{part-length}
 use Rattle.block.specs.Image.{contentOf}
 use Rattle.block.specs.Lookup.{keysOf, findKey, noVlan, noStatic, noPair}
 use Rattle.block.specs.Tables.{rowsOf}
@@ -16,7 +17,6 @@ use Rattle.block.specs.declared.tables.Table.the-variants.{Vlan as vlan, Static
 use Rattle.answer.specs.Tables.{ColumnOf, step, removes}
 use Rattle.set.specs.Kept.{statusPlace, statusOf, columnAt, ColumnFits}
 use Rattle.set.specs.Phases.{FitsRow}
-use Rattle.set.proofs.judge.AskedLaws.{length-part}
 use Rattle.set.proofs.columns.ColumnLaws.{static-small, pair-small}
 use Rattle.set.proofs.apply.WholeLaws.{whole-few, written-sized}
 use Rattle.set.proofs.apply.FoundLaws.{found-inside, set-becomes}
@@ -64,7 +64,7 @@ vlan-with-requires c κs =
       p .0 .within,
       λ e.
           let l : length (octets a) ≤ 32 = subst (λ (i : ℕ). ColumnFits vlan (columnAt vlan i (q .value) (octets a))) e (p .0 .fits) in
-          omega (arith, length-part (a .args .request .now) (q .at) (q .len) (p .0 .within)),
+          omega (arith, part-length (a .args .request .now) (q .at) (q .len) (p .0 .within)),
     )
 
 change-vlan-requires : tie.Need-change-vlan-requires

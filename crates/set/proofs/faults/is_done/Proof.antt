@@ -4,8 +4,8 @@ use Prim.Native.Nat.{_≤_, _-_}
 use native.Mathlib.Omega.{arith}
 use lib.ListN.{length, take, drop}
 use borrow.Author.Needs.{needs}
+use Rattle.octets.proofs.ListLaws.{left-none}
 use Rattle.set.specs.Kept.{isDone}
-use Rattle.set.proofs.LeftLaws.{left-none}
 use Rattle.set.proofs.faults.StatusLaws.{done-turn}
 use Rattle.set.proofs.faults.is_done.Statement.{statement}
 use Rattle.set.proofs.faults.is_done.Tie as tie

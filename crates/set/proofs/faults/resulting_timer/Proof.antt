@@ -13,7 +13,7 @@ use Rattle.block.proofs.ValidParts.{valid-parts}
 use Rattle.answer.specs.Set.{gather, setCells, resultingCells}
 use Rattle.set.specs.Kept.{meantBy}
 use Rattle.set.specs.declared.judge.Kept.{Kept}
-use Rattle.set.proofs.LeftLaws.{pastEnd}
+use Rattle.set.proofs.PastEnd.{pastEnd}
 use Rattle.set.proofs.faults.TimerLaws.{timerBy, timer-fits, timer-more}
 use Rattle.set.proofs.faults.resulting_timer.Statement.{statement}
 use Rattle.set.proofs.faults.resulting_timer.Tie as tie

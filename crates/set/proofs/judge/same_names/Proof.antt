@@ -5,8 +5,8 @@ use mathlib.Core.List.{List}
 use native.Mathlib.Omega.{arith}
 use lib.ListN.{length, drop, drop-of-length-le}
 use Rattle.octets.specs.Parts.{part, same}
-use Rattle.octets.proofs.PartLaws.{same-refl}
-use Rattle.set.proofs.judge.AskedLaws.{length-part, ends-equal, ends-differ, other-length}
+use Rattle.octets.proofs.PartLaws.{same-refl, part-length}
+use Rattle.set.proofs.judge.AskedLaws.{ends-equal, ends-differ, other-length}
 use Rattle.set.proofs.judge.same_names.Statement.{statement}
 use Rattle.set.proofs.judge.same_names.Tie as tie
 
@@ -32,8 +32,8 @@ loop-holds c =
     let s = a .request .now in
     let k : a .from + a .size ≤ length s = omega (arith, c .if1 .left, c .before .pre .1) in (
       omega arith,
-      drop-of-length-le (part s (a .at) (a .size)) {i = a .size} (omega (arith, length-part s (a .at) (a .size) (c .before .pre .0)))
-          ∙ sym (drop-of-length-le (part s (a .from) (a .size)) {i = a .size} (omega (arith, length-part s (a .from) (a .size) k))),
+      drop-of-length-le (part s (a .at) (a .size)) {i = a .size} (omega (arith, part-length s (a .at) (a .size) (c .before .pre .0)))
+          ∙ sym (drop-of-length-le (part s (a .from) (a .size)) {i = a .size} (omega (arith, part-length s (a .from) (a .size) k))),
     )
 
 sub-i : tie.Need-sub-i Inv-loop μ-loop
