@@ -9,7 +9,7 @@ use lib.ListN.{length, length-map}
 use borrow.Author.Tests.{eqb-true, eqb-false, eq-eqb, ne-eqb, leb-true, leb-false, le-leb, not-true, not-false}
 use Rattle.tally.specs.declared.RbCase.{RbCase}
 use Rattle.tally.specs.Codes.{mostCases, stateNotRun, stateRunning, stateFailed, stateBroken, eventStart, eventCrash, eventEnd, markClear, markSet, accepted}
-use Rattle.tally.specs.Run.{countIf, someIf, allIf, hasId, running, known, isNotRun, ascending, legalCases, markFits, legal, judged, unknown, notStartable, noneRunning, stateOf, number, stateAfter, restated, changed, became, markAfter}
+use Rattle.tally.specs.Run.{countIf, someIf, allIf, hasId, running, known, isNotRun, ascending, legalCases, markFits, legal, eventJudged, unknown, notStartable, noneRunning, stateOf, number, stateAfter, restated, changed, became, markAfter}
 use Rattle.tally.specs.History.{Run, Event, fed, after, newRun}
 use Rattle.tally.proofs.TestLaws.{by-bool, and-left, and-right, not-both-ways}
 use Rattle.tally.proofs.CaseLaws.{count-none, none-count, change-none, ascending-once, Legal, legal-parts, parts-legal}
@@ -90,16 +90,16 @@ pick p (c ∷ cs) u e =
     smaller k = by-bool (hasId k c) (λ s. omega (arith, rw s at (u k))) (λ s. rw s at (u k))
 
 -- ---- accepted events
-judged-start : judged true markClear eventStart true false stateNotRun ≡ accepted
-unfolding judged unknown notStartable noneRunning
+judged-start : eventJudged true markClear eventStart true false stateNotRun ≡ accepted
+unfolding eventJudged unknown notStartable noneRunning
 judged-start = refl
 
-judged-close : (event : ℕ) → eqb event eventStart ≡ false → eventStart ≤ event → event ≤ eventEnd → judged true markClear event true true stateRunning ≡ accepted
-unfolding judged unknown notStartable noneRunning
-judged-close = by-kind (λ event. judged true markClear event true true stateRunning ≡ accepted) refl refl refl refl
+judged-close : (event : ℕ) → eqb event eventStart ≡ false → eventStart ≤ event → event ≤ eventEnd → eventJudged true markClear event true true stateRunning ≡ accepted
+unfolding eventJudged unknown notStartable noneRunning
+judged-close = by-kind (λ event. eventJudged true markClear event true true stateRunning ≡ accepted) refl refl refl refl
 
-judged-end : (listed runs : Bool) (state : ℕ) → judged true markClear eventEnd listed runs state ≡ accepted
-unfolding judged unknown notStartable noneRunning
+judged-end : (listed runs : Bool) (state : ℕ) → eventJudged true markClear eventEnd listed runs state ≡ accepted
+unfolding eventJudged unknown notStartable noneRunning
 judged-end listed runs state = refl
 
 module _ (cs : List RbCase) (ok : legal cs 0 ≡ true) where

@@ -9,7 +9,7 @@ use lib.ListN.{length, getD, length-map}
 use borrow.Author.Tests.{eqb-true, eqb-false, eq-eqb, leb-true, not-true}
 use Rattle.tally.specs.declared.RbCase.{RbCase}
 use Rattle.tally.specs.Codes.{stateNotRun, stateRunning, statePassed, stateFailed, stateBroken, eventStart, eventPass, eventFail, eventEnd, markClear, markSet, refusedEnded, refusedRun}
-use Rattle.tally.specs.Run.{countIf, allIf, known, isPassed, isFailed, isBroken, isNotRun, running, someIf, legalCases, markFits, legal, restated, changed, touches, stateAfter, became, markAfter, judged, number, counted, report}
+use Rattle.tally.specs.Run.{countIf, allIf, known, isPassed, isFailed, isBroken, isNotRun, running, someIf, legalCases, markFits, legal, restated, changed, touches, stateAfter, became, markAfter, eventJudged, number, counted, report}
 use Rattle.tally.specs.Scan.{none}
 use Rattle.tally.specs.History.{Run, Event, isLegal, accepts, fed, after, newRun, acceptedOf, names, breaks, closes, closedBy, told, asTold, toldFrom, asToldFrom, someEvent}
 use Rattle.tally.specs.Theorems.{caseAt, startOf, classes, NewLegal, LegalStays, LegalReached, AsTold, AsToldFrom, ReportTold, OneClass, SumIsLength, NeverStarted, PassedWasStarted, RunningIsBroken, BrokenUntilVerdict, RefusedKeeps, MarkTold, AfterEnd, IdsStay}
@@ -280,11 +280,11 @@ broken-until-verdict r es i within begins unclosing =
 
 -- ---- after the end
 ended-number : (r : Run) (e : Event) → r .mark ≡ markSet → isLegal r ≡ true → number (r .cases) (r .mark) (e .kind) (e .id) ≡ refusedEnded
-unfolding number judged
+unfolding number eventJudged
 ended-number r e m h = rw (h, m)
 
 unlawful : (r : Run) (e : Event) → isLegal r ≡ false → number (r .cases) (r .mark) (e .kind) (e .id) ≡ refusedRun
-unfolding number judged
+unfolding number eventJudged
 unlawful r e h = rw h
 
 ended-refuses : (r : Run) (e : Event) → r .mark ≡ markSet → accepts r e ≡ false

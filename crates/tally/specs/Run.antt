@@ -81,8 +81,8 @@ unfoldable pub noneRunning : ℕ → Bool → ℕ → Bool
 noneRunning event runs state = (leb eventPass event && leb event eventCrash) && (not runs || (leb event eventFail && not (eqb state stateRunning)))
 
 -- "judged 15, 14, 11, 12, 13"
-unfoldable pub judged : Bool → ℕ → ℕ → Bool → Bool → ℕ → ℕ
-judged ok m event listed runs state =
+unfoldable pub eventJudged : Bool → ℕ → ℕ → Bool → Bool → ℕ → ℕ
+eventJudged ok m event listed runs state =
     cond (not ok) refusedRun (cond (eqb m markSet) refusedEnded (cond (unknown event listed) refusedUnknown (cond (notStartable event runs state) refusedStart (cond (noneRunning event runs state) refusedVerdict accepted))))
 
 -- the state of the case with this id; not run where it is not listed
@@ -91,7 +91,7 @@ stateOf id [] = stateNotRun
 stateOf id (c ∷ cs) = cond (hasId id c) (c .state) (stateOf id cs)
 
 unfoldable pub number : List RbCase → ℕ → ℕ → ℕ → ℕ
-number cs m event id = judged (legal cs m) m event (someIf (hasId id) cs) (someIf running cs) (stateOf id cs)
+number cs m event id = eventJudged (legal cs m) m event (someIf (hasId id) cs) (someIf running cs) (stateOf id cs)
 
 -- ---- what an accepted event does: a start is of the case with its id, every other event of the case that runs
 abbrev pub touches : ℕ → ℕ → RbCase → Bool
