@@ -8,7 +8,7 @@ use lib.Dec.{eqb, leb}
 use borrow.Author.Tests.{eqb-true, leb-false, ne-eqb, not-false}
 use Rattle.tally.specs.declared.RbCase.{RbCase}
 use Rattle.tally.specs.Codes.{eventStart, eventFail, markSet, refusedUnknown, refusedStart, refusedVerdict, refusedEnded, refusedRun}
-use Rattle.tally.specs.Run.{someIf, hasId, running, legal, eventJudged, unknown, notStartable, noneRunning, stateOf, number}
+use Rattle.tally.specs.Run.{someIf, hasId, running, legalRun, eventJudged, unknown, notStartable, noneRunning, stateOf, number}
 use Rattle.tally.proofs.TestLaws.{by-bool}
 
 -- where the id is not listed, no number depends on a state
@@ -51,8 +51,8 @@ start-listed event listed t e = not-false listed (rw (eqb-true event eventStart 
 
 module _ (cs : List RbCase) (m event id : ℕ) where
   abbrev pub Taken : Type 0
-  Taken = Accepted (legal cs m) m event (someIf (hasId id) cs) (someIf running cs) (stateOf id cs)
+  Taken = Accepted (legalRun cs m) m event (someIf (hasId id) cs) (someIf running cs) (stateOf id cs)
 
   pub taken : eqb (number cs m event id) 0 ≡ true → Taken
   unfolding number
-  taken t = accepted (legal cs m) m event (someIf (hasId id) cs) (someIf running cs) (stateOf id cs) (eqb-true (number cs m event id) 0 t)
+  taken t = accepted (legalRun cs m) m event (someIf (hasId id) cs) (someIf running cs) (stateOf id cs) (eqb-true (number cs m event id) 0 t)
