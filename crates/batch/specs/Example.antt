@@ -56,6 +56,7 @@ pub record Batches (a : List ℕ) : Type 0 where
   pub most-frames : checkBatch (image (fresh fourPorts a)) (framed (replicate mostFrames (setOf []))) ≡ accepted
   pub octet-more : checkBatch (image (fresh fourPorts a)) (framed (replicate mostFrames (setOf [])) ++ (0 ∷ [])) ≡ refusedWith 23
 
+-- a source-routing bridge
 abbrev pub routing : Model
 routing = record { ports = 64; edition = oldEdition; device = sourceRouting }
 
@@ -66,7 +67,7 @@ pairNumber low high x = asked (3 ∷ 5 ∷ 1 ∷ 3 ∷ low ∷ high ∷ []) 0x21
 abbrev pub pairState : (low high s : ℕ) → Asked
 pairState low high s = asked (3 ∷ 5 ∷ 1 ∷ 4 ∷ low ∷ high ∷ []) 0x21 (0 ∷ 0 ∷ 0 ∷ s ∷ [])
 
--- 63 pairs: those of port 1 with the n ports from `high` on
+-- the pairs of port 1 with the n ports from `high` on; 63 of them
 unfoldable pub pairsOfOne : (high n : ℕ) → List (ℕ × PairRow)
 pairsOfOne high zero = []
 pairsOfOne high (suc n) = (256 + high, record { number = 0; state = 1 }) ∷ pairsOfOne (suc high) n

@@ -79,7 +79,7 @@ unfoldable pub absentEach : {R : Type 0} → List (ℕ × R) → (column : ℕ) 
 absentEach t c [] = 0
 absentEach t c (gs ∷ gss) = absent t (keysAt c gs) + absentEach t c gss
 
--- with the live rows of a table they are more than it has room for; and the number of the first such table
+-- the live rows of a table and the absent ones so counted; whether they are more than it has room for; and the number of the first such table
 abbrev pub rowsCounted : (t : Table) → Content → List (List (Option Group)) → ℕ
 rowsCounted t c gss = length (rowsOf t c) + absentEach (rowsOf t c) (firstColumn t) gss
 

@@ -101,7 +101,7 @@ fn is_short(block: &[u8], t: Table, model: Model, batch: &[u8]) -> bool
     at.most < needed(block, t, model, batch)
 }
 
-// The number of the first table that has not, 0 if each has.
+// The number of the first table without room for all absent rows that the messages name, 0 if each has it.
 pub fn first_short(block: &[u8], model: Model, batch: &[u8]) -> u32
     requires { ⌜ (legal (now block) ≡ true) × (model .ports ≤ 64) × SetsFrom (now batch) 0 1 ⌝ }
     ensures { λ r. ⌜ r ≡ firstCounted (contentOf (now (block .entry))) (namedFrom model (now (batch .entry)) 0 1) ⌝ }

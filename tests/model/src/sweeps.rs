@@ -98,7 +98,7 @@ fn every_octet_of(library: Library, (edition, device): (u32, u32), random: &mut 
 pub fn every_range(library: Library, random: &mut Random, tally: &mut Tally) -> Swept {
     let asked = message(Kind::Get, vec![bind(Object::NumPorts, &[0], Content::Null)]);
     let ends = [false, true];
-    let kinds = DEVICES.into_iter().flat_map(|device| EDITIONS.into_iter().map(move |edition| (device, edition)));
+    let kinds = DEVICES.flat_map(|device| EDITIONS.map(move |edition| (device, edition)));
     for ((device, edition), at_high) in kinds.flat_map(|kind| ends.into_iter().map(move |end| (kind, end))) {
         let mut start = Bridge::fresh(9, edition, device, &start::address(random)).expect("1 to 64 ports");
         for (object, numbers) in &mut start.settings {
@@ -157,8 +157,7 @@ pub fn every_pair(library: Library, random: &mut Random, tally: &mut Tally) -> S
             let groups = [0, 1, 2, 3, 4].map(|number| vec![state(number)]).into_iter();
             let both = [1, 2, 3].map(|of| [vec![state(of), number.clone()], vec![number.clone(), state(of)]]).concat();
             let all: Vec<Vec<Binding>> = groups.chain(both).chain([vec![number.clone()]]).collect();
-            let columns =
-                [Object::PairLowPort, Object::PairHighPort, Object::PairBridgeNum, Object::PairBridgeState];
+            let columns = [Object::PairLowPort, Object::PairHighPort, Object::PairBridgeNum, Object::PairBridgeState];
             let asked = columns.map(|column| bind(column, &index, Content::Null)).to_vec();
             all.into_iter().map(move |group| {
                 let get = Step::call(message(Kind::Get, asked.clone()));

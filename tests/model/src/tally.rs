@@ -225,7 +225,8 @@ impl Tally {
             }
             (Object::PairBridgeNum | Object::PairBridgeState, NO_CREATION) => {
                 let [low, high] = index else { return };
-                let reason = if low == high { 0 } else { 2 - u32::from(can_have(Shape::Pair, before.ports, &[*high, *low])) };
+                let reason =
+                    if low == high { 0 } else { 2 - u32::from(can_have(Shape::Pair, before.ports, &[*high, *low])) };
                 self.note("11 on two ports: equal, exchanged, not of the bridge", reason);
             }
             _ => {}

@@ -74,7 +74,8 @@ impl Writer {
     fn write_some(&mut self, random: &mut Random, most: usize) {
         match random.below(40) {
             0 => {
-                let refused = [(0, 1, 1), (65, 2, 2), (4_000_000_000, 1, 1), (4, 0, 1), (4, 3, 2), (4, 1, 0), (4, 2, 3)];
+                let refused =
+                    [(0, 1, 1), (65, 2, 2), (4_000_000_000, 1, 1), (4, 0, 1), (4, 3, 2), (4, 1, 0), (4, 2, 3)];
                 let (ports, edition, device) = random.pick(&refused);
                 self.set_up(ports, edition, device, &start::address(random));
             }

@@ -89,7 +89,8 @@ pub fn all_pairs(ports: u32) -> Vec<[u32; 2]> {
 
 fn fill_pairs(random: &mut Random, bridge: &mut Bridge) {
     let few = random.below(10);
-    let wanted = random.pick(&[0, 1, 2, few, 30, MOST_PAIRS - 2, MOST_PAIRS - 1, MOST_PAIRS - 1, MOST_PAIRS, MOST_PAIRS]);
+    let wanted =
+        random.pick(&[0, 1, 2, few, 30, MOST_PAIRS - 2, MOST_PAIRS - 1, MOST_PAIRS - 1, MOST_PAIRS, MOST_PAIRS]);
     let mut pairs = all_pairs(bridge.ports);
     if random.chance(70) {
         random.shuffle(&mut pairs);

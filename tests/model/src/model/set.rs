@@ -90,8 +90,7 @@ impl Bridge {
         if bindings[..at].iter().any(|earlier| earlier.name == *name) {
             return Err(GEN_ERR);
         }
-        let (found, index) =
-            split_of(self.device, name).filter(|(found, _)| found.writable()).ok_or(NOT_WRITABLE)?;
+        let (found, index) = split_of(self.device, name).filter(|(found, _)| found.writable()).ok_or(NOT_WRITABLE)?;
         let value = self.judge_value(found, content)?;
         if !can_have(found.shape, self.ports, index) {
             return Err(NO_CREATION);

@@ -8,16 +8,16 @@ use native.Mathlib.Omega.{arith}
 use lib.ListN.{length, getD}
 use Rattle.octets.specs.Parts.{part}
 use Rattle.block.specs.Image.{contentOf}
-use Rattle.block.specs.Lookup.{keysOf, findKey, noVlan, noStatic}
+use Rattle.block.specs.Lookup.{keysOf, findKey, noVlan, noStatic, noPair}
 use Rattle.block.specs.Tables.{rowsOf}
 use Rattle.block.specs.declared.rows.Place.the-variants.{At}
 use Rattle.block.specs.declared.tables.Table.{Table}
-use Rattle.block.specs.declared.tables.Table.the-variants.{Vlan as vlan, Static as static}
+use Rattle.block.specs.declared.tables.Table.the-variants.{Vlan as vlan, Static as static, Pair as pair}
 use Rattle.answer.specs.Tables.{ColumnOf, step, removes}
 use Rattle.set.specs.Kept.{statusPlace, statusOf, columnAt, ColumnFits}
 use Rattle.set.specs.Phases.{FitsRow}
 use Rattle.set.proofs.judge.AskedLaws.{length-part}
-use Rattle.set.proofs.columns.ColumnLaws.{static-small}
+use Rattle.set.proofs.columns.ColumnLaws.{static-small, pair-small}
 use Rattle.set.proofs.apply.WholeLaws.{whole-few, written-sized}
 use Rattle.set.proofs.apply.FoundLaws.{found-inside, set-becomes}
 use borrow.Author.Needs.{needs}
@@ -97,6 +97,28 @@ change-static-requires c κs =
     let w = p .0 .written in
     (written-sized w .long, omega (arith, whole-few (w .whole) static, found-inside (a .args .q .key) (contentOf (a .args .block .now) .statics) (a .args .i) (p .1)))
 
+enum-told-3 : tie.Need-enum-told-3
+enum-told-3 c = search needs
+
+pair-entry-requires : tie.Need-pair-entry-requires
+pair-entry-requires c κs =
+    let a = c .before .before .before .before .before in
+    let p = asked a (c .before .enum-told3 .given .1) in
+    (written-sized (p .0 .written), found-inside (a .args .q .key) (contentOf (a .args .block .now) .pairs) (a .args .i) (p .1))
+
+pair-with-requires : tie.Need-pair-with-requires
+pair-with-requires c κs =
+    let a = c .before .before .before .before .before .before .before in
+    let p = asked a (c .before .before .before .enum-told3 .given .1) in
+    (pair-small (a .args .q .place) (a .args .q .value) (octets a) (p .0 .fits), p .2)
+
+change-pair-requires : tie.Need-change-pair-requires
+change-pair-requires c κs =
+    let a = c .before .before .before .before .before .before .before .before in
+    let p = asked a (c .before .before .before .before .enum-told3 .given .1) in
+    let w = p .0 .written in
+    (written-sized w .long, omega (arith, whole-few (w .whole) pair, found-inside (a .args .q .key) (contentOf (a .args .block .now) .pairs) (a .args .i) (p .1)))
+
 same-length : tie.Need-same-length
 same-length c = search needs
 
@@ -129,6 +151,23 @@ returns-2 c =
     (set-becomes static w (q .key) (column static a) (p .0 .keyFits) (p .0 .fits) noStatic _ (p .1) (sym with)
     (c .before .before .change-static .ensures _ (w .whole .stored .shape) (found-inside (q .key) (contentOf (a .args .block .now) .statics) (a .args .i) (p .1)) (sym (w .same))))
 
+same-length-3 : tie.Need-same-length-3
+same-length-3 c = search needs
+
+returns-3 : tie.Need-returns-3
+returns-3 c =
+    let a = c .before .before .before .before .before .before .before .before .before .before .before in
+    let told = c .before .before .before .before .before .before .before .enum-told3 .given .1 in
+    let p = asked a told in
+    let w = p .0 .written in
+    let q = a .args .q in
+    let row = getD (contentOf (a .args .block .now) .pairs) (a .args .i) noPair .1 in
+    let with : some (c .before .before .before .pair-with .result) ≡ step (bridge a) pair (q .key) (column pair a) (some row) =
+    rw (c .before .before .before .before .before .pair-entry .ensures) at (c .before .before .before .pair-with .ensures (bridge a) (octets a)) in
+    rw told
+    (set-becomes pair w (q .key) (column pair a) (p .0 .keyFits) (p .0 .fits) noPair _ (p .1) (sym with)
+    (c .before .before .change-pair .ensures _ (w .whole .stored .shape) (found-inside (q .key) (contentOf (a .args .block .now) .pairs) (a .args .i) (p .1)) (sym (w .same))))
+
 pub change-row-spec : {M : Type 1} → statement M
 change-row-spec =
     tie.close
@@ -141,7 +180,13 @@ change-row-spec =
     static-entry-requires
     static-with-requires
     change-static-requires
+    enum-told-3
+    pair-entry-requires
+    pair-with-requires
+    change-pair-requires
     same-length
     returns
     same-length-2
-    returns-2)
+    returns-2
+    same-length-3
+    returns-3)

@@ -10,12 +10,12 @@ use Rattle.block.specs.Lookup.{keysOf, findKey}
 use Rattle.block.specs.Tables.{rowsOf, most}
 use Rattle.block.specs.declared.rows.Place.the-variants.{Absent}
 use Rattle.block.specs.declared.tables.Table.{Table}
-use Rattle.block.specs.declared.tables.Table.the-variants.{Vlan as vlan, Static as static}
+use Rattle.block.specs.declared.tables.Table.the-variants.{Vlan as vlan, Static as static, Pair as pair}
 use Rattle.answer.specs.Writes.{status}
 use Rattle.answer.specs.Tables.{statusStep, makes}
 use Rattle.set.specs.Kept.{statusOf, keyRoom, ColumnFits}
 use Rattle.set.specs.Phases.{Written}
-use Rattle.set.proofs.columns.ColumnLaws.{static-small}
+use Rattle.set.proofs.columns.ColumnLaws.{static-small, state-small}
 use Rattle.set.proofs.apply.WholeLaws.{written-sized}
 use Rattle.set.proofs.apply.FoundLaws.{absent-inside, insert-becomes}
 use borrow.Author.Needs.{needs}
@@ -68,6 +68,21 @@ insert-static-requires c κs =
     let p = asked a (c .before .before .enum-told2 .given .1) in
     (written-sized (p .0) .long, p .5, absent-inside (a .args .key) (contentOf (a .args .block .now) .statics) (a .args .i) (p .4))
 
+enum-told-3 : tie.Need-enum-told-3
+enum-told-3 c = search needs
+
+made-pair-requires : tie.Need-made-pair-requires
+made-pair-requires c κs =
+    let a = c .before .before .before .before .before .before in
+    let p = asked a (c .before .enum-told3 .given .1) in
+    (p .3, state-small (a .args .v) (p .2))
+
+insert-pair-requires : tie.Need-insert-pair-requires
+insert-pair-requires c κs =
+    let a = c .before .before .before .before .before .before .before in
+    let p = asked a (c .before .before .enum-told3 .given .1) in
+    (written-sized (p .0) .long, p .5, absent-inside (a .args .key) (contentOf (a .args .block .now) .pairs) (a .args .i) (p .4))
+
 same-length : tie.Need-same-length
 same-length c = search needs
 
@@ -98,6 +113,21 @@ returns-2 c =
     (p .5)
     (c .before .before .insert-static .ensures _ (p .0 .whole .stored .shape) (sym (p .0 .same))))
 
+same-length-3 : tie.Need-same-length-3
+same-length-3 c = search needs
+
+returns-3 : tie.Need-returns-3
+returns-3 c =
+    let a = c .before .before .before .before .before .before .before .before .before .before in
+    let told = c .before .before .before .before .before .enum-told3 .given .1 in
+    let p = asked a told in
+    let x = statusOf pair (a .args .v) in
+    rw told
+    (insert-becomes pair (p .0) (a .args .key) (status x) (p .1) (p .2) _ (p .4)
+    (sym (c .before .before .before .made-pair .ensures (contentOf (a .args .block .now) .ports) (a .args .key)))
+    (p .5)
+    (c .before .before .insert-pair .ensures _ (p .0 .whole .stored .shape) (sym (p .0 .same))))
+
 pub make-row-spec : {M : Type 1} → statement M
 make-row-spec =
     tie.close
@@ -109,7 +139,12 @@ make-row-spec =
     enum-told-2
     made-static-requires
     insert-static-requires
+    enum-told-3
+    made-pair-requires
+    insert-pair-requires
     same-length
     returns
     same-length-2
-    returns-2)
+    returns-2
+    same-length-3
+    returns-3)

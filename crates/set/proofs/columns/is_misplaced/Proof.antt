@@ -17,6 +17,9 @@ states-vlan-requires c κs = search needs
 enum-told-2 : tie.Need-enum-told-2
 enum-told-2 c = search needs
 
+enum-told-3 : tie.Need-enum-told-3
+enum-told-3 c = search needs
+
 returns : tie.Need-returns
 returns c =
     let a = c .before .before .before .before .args in
@@ -25,5 +28,8 @@ returns c =
 returns-2 : tie.Need-returns-2
 returns-2 c = rw (c .enum-told2 .given .1)
 
+returns-3 : tie.Need-returns-3
+returns-3 c = rw (c .enum-told3 .given .1)
+
 pub is-misplaced-spec : {M : Type 1} → statement M
-is-misplaced-spec = tie.close (tie.spec enum-told makes-row-requires states-vlan-requires enum-told-2 returns returns-2)
+is-misplaced-spec = tie.close (tie.spec enum-told makes-row-requires states-vlan-requires enum-told-2 enum-told-3 returns returns-2 returns-3)

@@ -9,8 +9,11 @@ is-full-requires c κs = search needs
 is-full-requires-2 : tie.Need-is-full-requires-2
 is-full-requires-2 c κs = search needs
 
+is-full-requires-3 : tie.Need-is-full-requires-3
+is-full-requires-3 c κs = search needs
+
 returns : tie.Need-returns
-returns c s = rw (c .is-full2 .ensures s, c .before .is-full .ensures s)
+returns c s = rw (c .is-full3 .ensures s, c .before .is-full2 .ensures s, c .before .before .is-full .ensures s)
 
 pub full-in-spec : {M : Type 1} → statement M
-full-in-spec = tie.close (tie.spec is-full-requires is-full-requires-2 returns)
+full-in-spec = tie.close (tie.spec is-full-requires is-full-requires-2 is-full-requires-3 returns)

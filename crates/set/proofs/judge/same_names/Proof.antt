@@ -4,7 +4,6 @@ use mathlib.Core.Path.{_≡_, sym, ap, subst, _∙_}
 use mathlib.Core.List.{List}
 use native.Mathlib.Omega.{arith}
 use lib.ListN.{length, drop, drop-of-length-le}
-use borrow.Author.Needs.{needs}
 use Rattle.octets.specs.Parts.{part, same}
 use Rattle.octets.proofs.PartLaws.{same-refl}
 use Rattle.set.proofs.judge.AskedLaws.{length-part, ends-equal, ends-differ, other-length}
