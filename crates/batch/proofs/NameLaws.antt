@@ -13,7 +13,6 @@ use Rattle.answer.specs.Get.{elem}
 use Rattle.answer.specs.Tables.{firstColumn}
 use Rattle.answer.specs.Judge.{Asked, Judged, groupNamed, groupOf, judged}
 use Rattle.block.specs.declared.tables.Table.{Table}
-use Rattle.block.specs.declared.tables.Table.the-variants.{Vlan as vlan, Static as static}
 use Rattle.answer.specs.Terms.{onto, indices, Separate, namedIn, askedOf, namedBy}
 use Rattle.answer.proofs.RoomLaws.{or-right}
 use Rattle.answer.proofs.JudgeLaws.{judged-groups}
