@@ -20,7 +20,8 @@ use Rattle.names.specs.Index.{canHave, index}
 use Rattle.names.specs.declared.Shape.{Shape}
 use Rattle.block.specs.Image.{staticAt, contentOf}
 use Rattle.block.specs.Tables.{static}
-use Rattle.block.specs.Valid.{every, portSet, staticOk, staticStatus, rowOk, rowsOk, ascends}
+use Rattle.block.specs.Valid.{every, portSet, staticOk, rowsOk}
+use Rattle.block.specs.Tests.{staticStatus, rowOk, ascends}
 use Rattle.block.specs.declared.rows.StaticRow.{StaticRow}
 use Rattle.block.proofs.ReadLaws.{row-is}
 

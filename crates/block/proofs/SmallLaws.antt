@@ -14,7 +14,8 @@ use Rattle.names.specs.Rule.{inRange, inSteps, isFrame, inFrames}
 use Rattle.names.proofs.RuleLaws.{step-one}
 use Rattle.names.specs.declared.table.ObjectType.{ObjectType}
 use Rattle.block.specs.Image.{contentOf}
-use Rattle.block.specs.Valid.{every, isSmall}
+use Rattle.block.specs.Valid.{every}
+use Rattle.block.specs.Tests.{isSmall}
 use Rattle.block.proofs.ReadLaws.{cell-is}
 use Rattle.block.proofs.LegalLaws.{every-turn}
 

@@ -4,15 +4,15 @@ use mathlib.Core.Path.{_≡_, refl, sym, ap, subst, _∙_}
 use mathlib.Core.Bool.{true, false, _&&_}
 use mathlib.Core.List.{List, [], _∷_, _++_, map, append-assoc}
 use native.Mathlib.Omega.{arith}
-use native.Mathlib.Numerals.{add-one}
 use borrow.Author.Tests.{leb-true, leb-false, eqb-true, le-leb, lt-leb, lt-ltb, le-ltb}
 use lib.Dec.{leb, eqb}
-use lib.ListN.{length, getD, take, drop, replicate, length-append, length-replicate, length-take, drop-of-length-le, List·getD-append}
-use lib.Seq.{drop-cons, drop-at, take-at, getD-take, length-take-le}
+use lib.ListN.{length, getD, take, drop, replicate, length-append, length-replicate, List·getD-append}
+use lib.Seq.{drop-at, take-at, length-take-le}
 use Rattle.octets.specs.Numbers.{beOctets}
 use Rattle.octets.specs.Parts.{part, patch}
 use Rattle.octets.proofs.NumberLaws.{length-beOctets}
-use Rattle.octets.proofs.PartLaws.{patch-none, patch-patch}
+use Rattle.octets.proofs.PartLaws.{patch-none, patch-patch, part-length}
+use Rattle.octets.proofs.ListLaws.{left-none, left-turn}
 use Rattle.octets.proofs.BoolLaws.{both}
 use Rattle.message.specs.declared.form.Field.{Field}
 use Rattle.message.specs.declared.form.Field.the-variants.{Cut, Whole}
@@ -30,7 +30,6 @@ use Rattle.message.proofs.FormLaws.{InPlace, told, cond-cases, clash}
 use Rattle.message.proofs.BindingLaws.{content-brief}
 use Rattle.datagram.specs.declared.response.Answers.{Answers}
 use Rattle.datagram.specs.Writing.{lengthForm, headerForm, berOctets, shortened, nameBer, berTag, contentBer, bindingBer, bindingsBer, responseBer, responseFields, responseFront, datagramFields, datagramFront, datagramOctets, nameWritten, responseIn, responseAt, responsesFrom, responseHead, readResponse, answersOf, Writable, Ready, Put, notSent, sent, sentBy, toDatagram}
-use Rattle.datagram.proofs.BerLaws.{part-length}
 use Rattle.datagram.proofs.WriteLaws.{field-before, two-before, header-most, name-most, content-most, shortened-most, binding-is}
 use Rattle.datagram.proofs.PlaceLaws.{name-back}
 
@@ -111,13 +110,10 @@ binding-put s b {a} {a₂ = a₂} {p = p} r m e w h v f = subst (Put a a₂ r p)
 abbrev pub left : List ℕ → List Binding → (count i : ℕ) → List Bound
 left s bs count i = map (boundAt s) (drop i (take count bs))
 
-pub left-none : (s : List ℕ) (bs : List Binding) (count i : ℕ) → count ≤ i → left s bs count i ≡ []
-left-none s bs count i h = rw (drop-of-length-le (take count bs) {i = i} (omega (arith, length-take count bs)))
-
 module _ (s : List ℕ) (bs : List Binding) (count i : ℕ) (h : i < count) (k : count ≤ length bs) where
   bers-turn : bindingsBer (left s bs count i) ≡ bindingBer (boundAt s (getD bs i noBinding)) ++ bindingsBer (left s bs count (i + 1))
   unfolding bindingsBer
-  bers-turn = rw (add-one i, drop-cons (take count bs) i noBinding (omega (arith, length-take-le count bs k)), getD-take count bs i noBinding h)
+  bers-turn = rw (left-turn noBinding bs count i h k)
 
   pub bers-size : length (bindingsBer (left s bs count i)) ≡ length (bindingBer (boundAt s (getD bs i noBinding))) + length (bindingsBer (left s bs count (i + 1)))
   bers-size = ap length bers-turn ∙ length-append (bindingBer (boundAt s (getD bs i noBinding))) (bindingsBer (left s bs count (i + 1)))
@@ -130,11 +126,11 @@ module _ (s : List ℕ) (bs : List Binding) (count i : ℕ) (h : i < count) (k :
 
 pub bers-none : (s : List ℕ) (bs : List Binding) (count i : ℕ) → count ≤ i → length (bindingsBer (left s bs count i)) ≡ 0
 unfolding bindingsBer
-bers-none s bs count i h = rw (left-none s bs count i h)
+bers-none s bs count i h = rw (left-none bs count i h)
 
 pub bers-done : (s : List ℕ) (bs : List Binding) (count i : ℕ) (room : List ℕ) (to : ℕ) → count ≤ i → room ≡ patch room to (bindingsBer (left s bs count i))
 unfolding bindingsBer
-bers-done s bs count i room to h = rw (left-none s bs count i h) (patch-none room to)
+bers-done s bs count i room to h = rw (left-none bs count i h) (patch-none room to)
 
 -- ## What stands before the community, and before the bindings
 

@@ -9,6 +9,7 @@ use lib.Dec.{leb, ltb, eqb}
 use Rattle.octets.specs.Numbers.{beAt, beOctets}
 use Rattle.octets.specs.Parts.{patch}
 use Rattle.names.specs.SubIds.{subids}
+use Rattle.message.specs.declared.form.Refusal.{Refusal}
 use Rattle.message.specs.declared.form.Role.the-variants.{Kind, Bind, Name}
 use Rattle.message.specs.declared.request.Head.{Head}
 use Rattle.message.specs.declared.request.Binding.{Binding}
@@ -145,10 +146,14 @@ responseHead s =
 unfoldable pub readResponse : List ℕ → Reading
 readResponse s = headThen (responseHead s) (λ kind id status index. withBindings kind id status index (responsesFrom s mostBindings headSize))
 
+-- what stands in place of a refusal where there is none
+abbrev pub noRefusal : Refusal
+noRefusal = refusal 0 0
+
 -- bindings as the code holds them: empty ones after them up to 16
 abbrev pub answersOf : Bindings → Answers
 answersOf (ended r) = record { whole = false; refusal = r; count = 0; bindings = replicate 16 noBinding }
-answersOf (all bs) = record { whole = true; refusal = refusal 0 0; count = length bs; bindings = bs ++ replicate (16 - length bs) noBinding }
+answersOf (all bs) = record { whole = true; refusal = noRefusal; count = length bs; bindings = bs ++ replicate (16 - length bs) noBinding }
 
 -- what the code that writes a binding of a response asks of it
 pub record Writable (s : List ℕ) (b : Binding) : Type 0 where

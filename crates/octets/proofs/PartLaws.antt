@@ -6,8 +6,8 @@ use Prim.Native.Nat.{ℕ, zero, suc, _+_, _≤_, _<_}
 use native.Mathlib.Nat.{add-zero}
 use native.Mathlib.Numerals.{add-one}
 use native.Mathlib.Omega.{arith}
-use lib.ListN.{drop-of-length-le, length, take, drop, getD, set, length-append, length-drop, take-append-drop, List·getD-append, replicate-append-replicate, length-replicate}
-use lib.Seq.{take-set-le, drop-cons, append-snoc, length-take-le, take-at, drop-at, set-at, set-split, getD-append-add, take-add, drop-drop, sets, sets-eq, set-comm, getD-at}
+use lib.ListN.{drop-of-length-le, length, length-take, take, drop, getD, set, length-append, length-drop, take-append-drop, List·getD-append, replicate-append-replicate, length-replicate}
+use lib.Seq.{getD-take, getD-drop, take-set-le, drop-cons, append-snoc, length-take-le, take-at, drop-at, set-at, set-split, getD-append-add, take-add, drop-drop, sets, sets-eq, set-comm, getD-at}
 use borrow.Author.Tests.{eqb-true, eq-eqb, ne-eqb, eqb-false}
 use lib.Bits.{bitOr, or-zero-l, or-add-and, and-le-r}
 use lib.Dec.{eqb, eqb·suc-zero}
@@ -171,6 +171,17 @@ take-take-drop b p m n = rw (← drop-drop m p b) (sym (take-add m n (drop p b))
 -- the part between two others
 pub part-in : (s x c z : List ℕ) (p : ℕ) → s ≡ x ++ (c ++ z) → length x ≡ p → part s p (length c) ≡ c
 part-in s x c z p is e = rw (is, drop-at x (c ++ z) p e) (take-at c z (length c) refl)
+
+-- how long a part is, and the octets in it
+module _ (s : List ℕ) (p n : ℕ) where
+  pub part-length : p + n ≤ length s → length (part s p n) ≡ n
+  part-length h = simp (length-take, length-drop) (omega arith)
+
+  pub part-at : (i : ℕ) → i < n → getD (part s p n) i 0 ≡ getD s (p + i) 0
+  part-at i h = rw (getD-take, getD-drop)
+
+  pub part-first : 0 < n → getD (part s p n) 0 0 ≡ getD s p 0
+  part-first h = part-at 0 h ∙ ap (λ (k : ℕ). getD s k 0) (omega arith)
 
 -- a part of one octet
 pub part-one : (s : List ℕ) (p : ℕ) → p < length s → part s p 1 ≡ getD s p 0 ∷ []

@@ -11,7 +11,7 @@ use lib.ListN.{length, getD, take, drop, length-append}
 use lib.Seq.{drop-cons}
 use Rattle.octets.specs.Numbers.{beAt, beOctets}
 use Rattle.octets.specs.Parts.{part}
-use Rattle.octets.proofs.PartLaws.{take-take-drop}
+use Rattle.octets.proofs.PartLaws.{take-take-drop, part-length}
 use Rattle.octets.proofs.NumberLaws.{Octets, beAt-one, beOctets-beAt, length-beOctets}
 use Rattle.octets.proofs.BoolLaws.{both}
 use Rattle.octets.proofs.OctetLaws.{octets-append, octets-part, octets-none, octets-cons, octets-be}
@@ -19,7 +19,7 @@ use Rattle.message.specs.declared.form.Field.{Field}
 use Rattle.message.specs.declared.form.Field.the-variants.{Cut, Whole}
 use Rattle.datagram.specs.Ber.{longForm, lengthOctets, lengthSaid, wholeIf, fieldAt}
 use Rattle.datagram.specs.Writing.{lengthForm, headerForm, berOctets}
-use Rattle.datagram.proofs.BerLaws.{part-length, said-long}
+use Rattle.datagram.proofs.BerLaws.{said-long}
 
 -- ys is the shortest that says what xs says
 pub record Least (xs ys : List ℕ) : Type 0 where

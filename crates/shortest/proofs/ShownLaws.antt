@@ -13,6 +13,7 @@ use Rattle.octets.specs.Parts.{part}
 use Rattle.octets.proofs.NumberLaws.{Octets}
 use Rattle.octets.proofs.BoolLaws.{both}
 use Rattle.octets.proofs.OctetLaws.{octets-part}
+use Rattle.octets.proofs.PartLaws.{part-at, part-length}
 use Rattle.names.specs.SubIds.{nameOctets}
 use Rattle.message.specs.declared.form.Field.{Field}
 use Rattle.message.specs.declared.form.Field.the-variants.{Cut, Whole}
@@ -29,7 +30,7 @@ use Rattle.datagram.specs.declared.reading.BerBinding.{BerBinding}
 use Rattle.datagram.specs.Ber.{fieldAt, fieldThen, foundThen, partAt, numberAt, isNumber, fewest, four, integer32, nameWhole, nameFits, subIds, contentTag, contentJudged, contentOctets}
 use Rattle.datagram.specs.Reading.{pduTaken, pduIn, communityIn, versionIn, openingOf, statusJudged, statusAt, lastAt, listIn, indexIn, statusIn, headIn, contentIn, nameIn, bindingAt, Bindings, ended, all, prepend, berBindingThen, bindingsFrom, wholeOf, openingThen, headThen, DatagramRead, refused, message, pduOf, readDatagram, boundAt}
 use Rattle.datagram.specs.Writing.{shortened, berOctets, nameBer, berTag, contentBer, bindingBer, bindingsBer}
-use Rattle.datagram.proofs.BerLaws.{part-at, part-length, field-told, part-told, number-told}
+use Rattle.datagram.proofs.BerLaws.{field-told, part-told, number-told}
 use Rattle.datagram.proofs.ReadLaws.{found-cases, field-cases, taken-above, HeadTells, head-tells}
 use Rattle.datagram.proofs.ReadBack.{anyOctets}
 use Rattle.shortest.proofs.InverseLaws.{id-inverse, status-inverse, name-inverse, content-inverse, tag-inverse}

@@ -6,7 +6,8 @@ use native.Mathlib.Omega.{arith}
 use lib.ListN.{length, take, drop}
 use borrow.Author.Tests.{not-true, not-false}
 use Rattle.block.specs.Image.{contentOf}
-use Rattle.block.specs.Valid.{every, isSmall}
+use Rattle.block.specs.Valid.{every}
+use Rattle.block.specs.Tests.{isSmall}
 use Rattle.block.proofs.ReadLaws.{many-cells}
 use Rattle.block.proofs.LegalLaws.{every-end}
 use Rattle.block.proofs.SmallLaws.{every-two}

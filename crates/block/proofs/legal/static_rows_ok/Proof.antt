@@ -10,7 +10,8 @@ use Rattle.octets.specs.Numbers.{beAt}
 use Rattle.octets.proofs.NumberLaws.{Octets}
 use Rattle.names.specs.declared.Shape.the-variants.{Static}
 use Rattle.block.specs.Image.{contentOf}
-use Rattle.block.specs.Valid.{every, rowOk, staticOk}
+use Rattle.block.specs.Valid.{every, staticOk}
+use Rattle.block.specs.Tests.{rowOk}
 use Rattle.block.specs.Lookup.{noStatic}
 use Rattle.block.proofs.ReadLaws.{many-statics}
 use Rattle.block.specs.declared.tables.Table.the-variants.{Static as static}

@@ -8,7 +8,7 @@ use lib.ListN.{drop, getD}
 use borrow.Author.Tests.{leb-true}
 use Rattle.octets.proofs.BoolLaws.{both}
 use Rattle.block.specs.Image.{contentOf}
-use Rattle.block.specs.Valid.{staticStatus, ascends}
+use Rattle.block.specs.Tests.{staticStatus, ascends}
 use Rattle.block.specs.Lookup.{noStatic}
 use Rattle.block.specs.declared.rows.StaticRow.{StaticRow}
 use Rattle.block.proofs.ReadLaws.{many-statics}

@@ -1,6 +1,6 @@
 -- `block::legal::tables_ok` meets its contract: at each `return` the tests made so far decide. Assumes nothing.
 use borrow.Author.Tests.{not-true, not-false}
-use Rattle.block.specs.Valid.{tablesOk}
+use Rattle.block.specs.Tests.{tablesOk}
 use borrow.Author.Needs.{needs}
 use Rattle.block.proofs.legal.tables_ok.Statement.{statement}
 use Rattle.block.proofs.legal.tables_ok.Tie as tie

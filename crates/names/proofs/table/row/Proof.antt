@@ -1,9 +1,10 @@
 -- `names::table::row` meets its contract: each arm writes the object type at its place of `specs/Table.antt`. Assumes nothing.
 use mathlib.Core.Path.{_≡_}
-use Prim.Native.Nat.{ℕ, zero, suc, _≤_}
 use native.Mathlib.Omega.{arith}
 use Rattle.names.specs.Codes.{decodedRow}
 use Rattle.names.specs.Table.{objects}
+use Rattle.names.specs.Places.{ingressFiltering}
+use Rattle.names.proofs.PlaceLaws.{last-place}
 use Rattle.names.proofs.table.row.Statement.{statement}
 use Rattle.names.proofs.table.row.Tie as tie
 
@@ -163,18 +164,9 @@ returns-39 : tie.Need-returns-39
 unfolding objects decodedRow
 returns-39 c = rw (c .match .keys39)
 
--- i is none of the k places from 0 on
-abbrev NoneOf : (X : Type 0) → ℕ → ℕ → Type 0
-NoneOf X i zero = X
-NoneOf X i (suc k) = NoneOf X i k × (i ≡ k → ⊥)
-
-past : (X : Type 0) (i k : ℕ) → NoneOf X i k → k ≤ i
-past X i zero h = omega arith
-past X i (suc k) h = omega (arith, past X i k (h .0), h .1)
-
--- past 39 arms the last place is left
-last : (c : tie.At-match-rest) → c .before .args .i ≡ 39
-last c = omega (arith, past _ (c .before .args .i) 39 (c .match .rest))
+-- past the arms of the other places the last place is left
+last : (c : tie.At-match-rest) → c .before .args .i ≡ ingressFiltering
+last c = last-place (c .before .args .i) (omega arith) (c .match .rest)
 
 returns-40 : tie.Need-returns-40
 unfolding objects decodedRow
