@@ -28,7 +28,7 @@ use Rattle.block.specs.declared.tables.Table.the-variants.{Vlan as vlan, Static
 use Rattle.answer.specs.Tables.{create, state, destroy, name, egress, forbidden, untagged, keep, drop, allowed, paired, unpaired, bridgeNumber, Status, Field, ColumnOf, columnPlace, madeVlan, statusStep, fieldStep, step, makes}
 use Rattle.answer.specs.Judge.{Asked, Judged, judged}
 use Rattle.answer.specs.Set.{writesTo, rowFault, isFull, fault, verdict, apply, after}
-use Rattle.answer.specs.Theorems.{startOf, columnName}
+use Rattle.answer.specs.Theorems.{startValue, columnName}
 use Rattle.answer.proofs.GetLaws.{valid-rows}
 use Rattle.answer.proofs.RoomLaws.{elem-not-head, elem-not-tail}
 use Rattle.answer.proofs.JudgeLaws.{judged-single, judged-unnamed}
@@ -41,10 +41,10 @@ use Rattle.answer.proofs.StoredLaws.{shows, held, row-got, field-quiet}
 
 -- the row that a change of the status column makes shows what a made row starts with
 starts : (n : ℕ) (t : Table) (k : ℕ) (f : Field t) (x : Status t) (r : Row t) → statusStep n t k x none ≡ some r
-    → shows n t (field f) r ≡ startOf n t k (columnPlace t (field f))
-starts n vlan k f (create s) r e = subst (λ r. shows n vlan (field f) r ≡ startOf n vlan k (columnPlace vlan (field f))) (Option·some-injective (madeVlan n k s) r e) (go f)
+    → shows n t (field f) r ≡ startValue n t k (columnPlace t (field f))
+starts n vlan k f (create s) r e = subst (λ r. shows n vlan (field f) r ≡ startValue n vlan k (columnPlace vlan (field f))) (Option·some-injective (madeVlan n k s) r e) (go f)
   where
-    go : (f : Field vlan) → shows n vlan (field f) (madeVlan n k s) ≡ startOf n vlan k (columnPlace vlan (field f))
+    go : (f : Field vlan) → shows n vlan (field f) (madeVlan n k s) ≡ startValue n vlan k (columnPlace vlan (field f))
     go (name xs) = refl
     go (egress s) = refl
     go (forbidden s) = refl
@@ -129,7 +129,7 @@ made-numbered c bs ok k was now un =
 pub made-start : (c : Content) (bs : List Asked) → valid c ≡ true → All (λ b. Octets (b .content)) bs → verdict c (judged (modelOf c) bs) .status ≡ 0
     → (t : Table) (k : ℕ) (f : Field t) → present (lookup k (rowsOf t c)) ≡ false → present (lookup k (rowsOf t (after c (judged (modelOf c) bs)))) ≡ true
     → All (λ b. b .name ≡ columnName t k f → ⊥) bs
-    → get (after c (judged (modelOf c) bs)) (columnName t k f) ≡ startOf (c .ports) t k (columnPlace t (field f))
+    → get (after c (judged (modelOf c) bs)) (columnName t k f) ≡ startValue (c .ports) t k (columnPlace t (field f))
 unfolding apply
 made-start c bs ok o e t k f was now un =
     let n : ℕ = c .ports in
@@ -145,6 +145,6 @@ made-start c bs ok o e t k f was now un =
     rw applied
     (row-got t (apply c m) k (field f) (can-row t (apply c m) k fine there) (has-row t (apply c m) k fine there)
     ∙ ap (λ (x : Option (Row t)). held (Option·map (shows n t (field f)) x)) row
-    ∙ ap held (field-started (statusStep n t) (fieldStep t) k ws (shows n t (field f)) (startOf n t k (columnPlace t (field f))) (starts n t k f)
+    ∙ ap held (field-started (statusStep n t) (fieldStep t) k ws (shows n t (field f)) (startValue n t k (columnPlace t (field f))) (starts n t k f)
     (λ y. eqb (columnPlace t y) (columnPlace t (field f))) (field-quiet n t f) (judged-unnamed (modelOf c) few t (columnPlace t (field f)) k bs un) (judged-single (modelOf c) few bs t)
     (sym (ap present row) ∙ there)))

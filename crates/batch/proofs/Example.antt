@@ -25,13 +25,13 @@ use Rattle.block.proofs.RoundLaws.{contentOf-image, legal-image}
 use Rattle.block.proofs.FreshLaws.{valid-fresh}
 use Rattle.block.specs.declared.tables.Table.the-variants.{Pair as pair}
 use Rattle.block.proofs.KeepLaws.{valid-rows, valid-statics}
-use Rattle.message.specs.Form.{fieldAt, tagAllowed, contentLength, lengthRight, judged as fieldJudged, checkedAt}
+use Rattle.message.specs.Form.{fieldAt, tagAllowed, contentLength, lengthRight, fieldJudged, checkedAt}
 use Rattle.message.specs.Request.{kindAllowed, statusAllowed, statusOf, idOf, headOf, contentRole, contentIn, bindingIn, bindingAt, bindingTagAt, seventeenth, bindingsFrom, readMessage, readRequest}
 use Rattle.message.specs.Answer.{headOctets, bindingOctets, bindingsOctets, messageOctets}
 use Rattle.answer.specs.Values.{values}
 use Rattle.answer.specs.Get.{elem, get}
 use Rattle.answer.specs.Writes.{those, ordered, has, count, full, play, playRow}
-use Rattle.answer.specs.Judge.{Asked, reading, alone, among as namedBefore, judgedFrom, groupOf}
+use Rattle.answer.specs.Judge.{Asked, contentSaid, alone, among as namedBefore, judgedFrom, groupOf}
 use Rattle.answer.specs.Set.{gather, rowFault, firstFault, verdict, setCells, apply, after}
 use Rattle.answer.specs.Cases.{fourPorts, under, ofVlan, ofStatic, egress, rowStatus, staticStatus, priority, getOf, setOf}
 use Rattle.answer.proofs.EchoTheorem.{octets-every}
@@ -155,7 +155,7 @@ pub record Worked (a : List ℕ) : Type 0 where
 
 pub worked : (a : List ℕ) → Worked a
 unfolding fresh freshColumns freshColumn times freshVlan zeros portsTo onlyTo disjoint portSetOf portOctets beAt beOctets objects placeUnder placeOf isPrefix below
-    within weight digits number keyIn upFrom values elem get same lookup activeVlans alter fitTo cellsIn reading tableFrom
+    within weight digits number keyIn upFrom values elem get same lookup activeVlans alter fitTo cellsIn contentSaid tableFrom
     tableOf alone namedBefore judgedFrom those ordered has count full play playRow gather rowFault firstFault verdict setCells apply after
 worked a = record { in-order = (refl, refl, refl); last-first = (refl, refl, refl); one-content = refl; holds = (refl, refl, refl, refl) }
 

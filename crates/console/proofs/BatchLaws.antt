@@ -11,7 +11,7 @@ use lib.Seq.{drop-drop, take-all, take-suc-set, getD-set-same, getD-set-other}
 use borrow.Author.Tests.{eqb-true, eqb-false, ltb-true, ltb-false, lt-ltb, le-ltb}
 use Rattle.octets.proofs.OctetLaws.{octets-drop}
 use Rattle.console.specs.Frames.{heading, filling, fresh, Step, inside, whole, wrong, arrived, run}
-use Rattle.console.specs.Places.{meant, moved, HeadOf}
+use Rattle.console.specs.Positions.{meant, moved, HeadOf}
 use Rattle.console.specs.Batch.{Within, noSpan, AllWithin, mostFrames, framesMany, led, framesOf, octetsAt, Means}
 use Rattle.console.specs.declared.header.Head.{Head}
 use Rattle.console.specs.declared.frames.Span.{Span}

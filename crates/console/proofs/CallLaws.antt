@@ -15,7 +15,7 @@ use Rattle.message.specs.Answer.{mostOctets}
 use Rattle.console.specs.Frames.{heading, filling, Step, inside, wrong, arrived, run}
 use Rattle.console.specs.State.{Saved, going, ended, saved, resumed, state, image, savedIn, savedOf, isLeft}
 use Rattle.console.specs.Calls.{refused, told, taking}
-use Rattle.console.specs.Places.{meant, moved, InHeader, HeadOf, Tail}
+use Rattle.console.specs.Positions.{meant, moved, InHeader, HeadOf, Tail}
 use Rattle.console.specs.declared.header.Head.{Head}
 use Rattle.console.proofs.RunLaws.{run-wrong, arrived-part}
 use Rattle.console.proofs.HeaderLaws.{meant-wrong, meant-sized, moved-none}

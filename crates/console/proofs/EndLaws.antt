@@ -11,7 +11,7 @@ use Rattle.octets.proofs.BoolLaws.{both}
 use Rattle.message.specs.Answer.{mostOctets}
 use Rattle.console.specs.Frames.{Frame, Step, inside, wrong, run}
 use Rattle.console.specs.State.{Saved, going, ended, saved, resumed, image, sound}
-use Rattle.console.specs.Calls.{Outcome, told, taking}
+use Rattle.console.specs.Calls.{ConsoleOutcome, told, taking}
 use Rattle.console.specs.Streams.{Heard, silent, adding, again, Session, over, call, AllOctets}
 use Rattle.console.proofs.RunLaws.{run-wrong}
 use Rattle.console.proofs.StreamLaws.{octets-left, taking-image, after-call, sound-after, again-octets, refuses, told-taken}
@@ -23,7 +23,7 @@ run-takes [] f h = absurd (omega arith)
 run-takes (o ∷ os) f h = omega arith
 
 -- the measure
-fewer : (c : List ℕ) (cs : List (List ℕ)) (o : Outcome) → (o .number ≡ 0 → 0 < length c → 0 < o .taken)
+fewer : (c : List ℕ) (cs : List (List ℕ)) (o : ConsoleOutcome) → (o .number ≡ 0 → 0 < length c → 0 < o .taken)
     → length (flatten (again o c cs)) + length (again o c cs) < length (flatten (c ∷ cs)) + length (c ∷ cs)
 unfolding again flatten
 fewer c cs o h = go (eqb (o .number) 0 && ltb (o .taken) (length c)) refl
@@ -52,7 +52,7 @@ call-fewer (going f) c cs room e r =
     fewer c cs (taking (image (going f)) c room) (λ _ k. rw (t, told-taken room (run c (inside f) .0) (run c (inside f) .1)) (run-takes c f k))
 call-fewer (ended n) c cs room e r =
     let t : taking (image (ended n)) c room ≡ told room (0, wrong n) = taking-image (ended n) c room e r ∙ ap (told room) (run-wrong c n) in
-    fewer c cs (taking (image (ended n)) c room) (λ z. absurd (ended-number room n e (ap (λ (u : Outcome). u .number) (sym t) ∙ z)))
+    fewer c cs (taking (image (ended n)) c room) (λ z. absurd (ended-number room n e (ap (λ (u : ConsoleOutcome). u .number) (sym t) ∙ z)))
 
 from-state : {a b : List ℕ} {cs : List (List ℕ)} {h : Heard} → a ≡ b → Session b cs h → Session a cs h
 from-state e p = rw e p

@@ -1,4 +1,4 @@
--- What an octet makes of a place in a header, case by case, as the code answers it; and how the octets of a chunk follow. Assumes nothing.
+-- What an octet makes of a position in a header, case by case, as the code answers it; and how the octets of a chunk follow. Assumes nothing.
 use mathlib.Core.Path.{_≡_, refl, sym, ap, _∙_}
 use mathlib.Core.List.{List, [], _∷_}
 use Prim.Native.Nat.{ℕ, _+_, _*_, _≤_, _<_}
@@ -7,8 +7,8 @@ use lib.ListN.{length, drop, getD, drop-of-length-le}
 use borrow.Author.Tests.{lt-ltb, le-ltb, eq-eqb, ne-eqb}
 use Rattle.message.specs.Answer.{mostOctets}
 use Rattle.console.specs.Frames.{mark, heading, fresh, Step, inside, wrong, arrived, sized, step, run}
-use Rattle.console.specs.Places.{meant, moved, NextPlace, HeadOf}
-use Rattle.console.specs.declared.header.Place.{Place}
+use Rattle.console.specs.Positions.{meant, moved, NextPosition, HeadOf}
+use Rattle.console.specs.declared.header.Position.{Position}
 use Rattle.console.proofs.RunLaws.{run-turn}
 
 -- what the three numbers mean
@@ -24,11 +24,11 @@ pub meant-sized : (z : ℕ) → meant 0 5 z ≡ arrived z []
 unfolding meant
 meant-sized z = refl
 
-abbrev placed : (number count size : ℕ) → Place
-placed number count size = record { number = number; count = count; size = size }
+abbrev position : (number count size : ℕ) → Position
+position number count size = record { number = number; count = count; size = size }
 
 module _ (c z o : ℕ) where
-  pub next-mark : c < 3 → o ≡ getD mark c 0 → NextPlace c z o (placed 0 (c + 1) 0)
+  pub next-mark : c < 3 → o ≡ getD mark c 0 → NextPosition c z o (position 0 (c + 1) 0)
   unfolding step
   next-mark h e =
       record {
@@ -38,7 +38,7 @@ module _ (c z o : ℕ) where
         short = λ _ q. omega arith;
       }
 
-  pub next-other : c < 3 → (o ≡ getD mark c 0 → ⊥) → NextPlace c z o (placed 21 0 0)
+  pub next-other : c < 3 → (o ≡ getD mark c 0 → ⊥) → NextPosition c z o (position 21 0 0)
   unfolding step meant
   next-other h e =
       record {
@@ -48,7 +48,7 @@ module _ (c z o : ℕ) where
         short = λ q. absurd (omega arith);
       }
 
-  pub next-length : c ≡ 3 → o < 256 → NextPlace c z o (placed 0 (c + 1) (o * 256))
+  pub next-length : c ≡ 3 → o < 256 → NextPosition c z o (position 0 (c + 1) (o * 256))
   unfolding step meant
   next-length h k =
       record {
@@ -59,7 +59,7 @@ module _ (c z o : ℕ) where
       }
 
   module _ (low : 3 ≤ c) (other : c ≡ 3 → ⊥) (high : c ≤ 4) where
-    pub next-long : mostOctets < z + o → NextPlace c z o (placed 22 0 0)
+    pub next-long : mostOctets < z + o → NextPosition c z o (position 22 0 0)
     unfolding step sized meant
     next-long h =
         record {
@@ -69,7 +69,7 @@ module _ (c z o : ℕ) where
           short = λ q. absurd (omega arith);
         }
 
-    pub next-sized : z + o ≤ mostOctets → NextPlace c z o (placed 0 5 (z + o))
+    pub next-sized : z + o ≤ mostOctets → NextPosition c z o (position 0 5 (z + o))
     unfolding step sized meant
     next-sized h =
         record {
@@ -84,9 +84,9 @@ moved-none r =
     let e : r .0 ≡ r .0 + 0 = omega arith in
     ap (λ (k : ℕ). (k, r .1)) e
 
--- after i octets of a chunk, which led to a place in the header: what the next octet leads to, and the end of the chunk
+-- after i octets of a chunk, which led to a position in the header: what the next octet leads to, and the end of the chunk
 module _ (chunk : List ℕ) (count size i c z : ℕ) (e : run chunk (inside (heading count size)) ≡ moved i (run (drop i chunk) (inside (heading c z)))) (few : i ≤ 4) where
-  module _ (h : i < length chunk) {p : Place} (n : NextPlace c z (getD chunk i 0) p) where
+  module _ (h : i < length chunk) {p : Position} (n : NextPosition c z (getD chunk i 0) p) where
     turned : run chunk (inside (heading count size)) ≡ moved (i + 1) (run (drop (i + 1) chunk) (meant (p .number) (p .count) (p .size)))
     turned = e ∙ run-turn chunk i (heading c z) h ∙ ap (λ (s : Step). moved (i + 1) (run (drop (i + 1) chunk) s)) (n .means)
 

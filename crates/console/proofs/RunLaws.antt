@@ -8,7 +8,7 @@ use lib.ListN.{length, take, drop, getD, length-append}
 use lib.Seq.{drop-cons, append-snoc}
 use borrow.Author.Tests.{eq-eqb, ne-eqb}
 use Rattle.console.specs.Frames.{Frame, filling, Step, inside, whole, wrong, arrived, step, run}
-use Rattle.console.specs.Places.{moved}
+use Rattle.console.specs.Positions.{moved}
 
 -- a message and a wrong octet end the run
 pub run-whole : (os : List ℕ) (m : List ℕ) → run os (whole m) ≡ (0, whole m)

@@ -13,7 +13,7 @@ use Rattle.message.specs.Answer.{mostOctets}
 use Rattle.console.specs.Frames.{heading, inside, wrong, arrived, run}
 use Rattle.console.specs.State.{saved, image, state, stateSize}
 use Rattle.console.specs.Calls.{told}
-use Rattle.console.specs.Places.{moved, Tail, front}
+use Rattle.console.specs.Positions.{moved, Tail, front}
 use Rattle.console.proofs.RunLaws.{run-wrong, fills-part, fills-whole}
 
 -- a patch at the front, and what stands from a patch on

@@ -15,7 +15,7 @@ use Rattle.octets.proofs.OctetLaws.{octets-drop, octets-append}
 use Rattle.message.specs.Answer.{mostOctets}
 use Rattle.console.specs.Frames.{Frame, fresh, Step, inside, whole, wrong, step, run}
 use Rattle.console.specs.State.{Saved, going, ended, saved, resumed, image, sound}
-use Rattle.console.specs.Calls.{Outcome, told, taking}
+use Rattle.console.specs.Calls.{ConsoleOutcome, told, taking}
 use Rattle.console.specs.Streams.{Heard, silent, handed, counted, adding, again, Session, over, call, Offers, done, offer, untaken, noted, hears, AllOctets}
 use Rattle.console.proofs.RunLaws.{run-wrong}
 use Rattle.console.proofs.StateLaws.{patch-first}
@@ -99,10 +99,10 @@ told-adds room u v t (wrong n) h g w q e =
 -- where the stream is after a call
 pub after-call : (s : Saved) (c room : List ℕ) → sound s ≡ true → mostOctets ≤ length room
     → taking (image s) c room .state ≡ image (saved (run c (resumed s) .1))
-after-call s c room e r = ap (λ (u : Outcome). u .state) (taking-image s c room e r) ∙ told-state room (run c (resumed s) .0) (run c (resumed s) .1)
+after-call s c room e r = ap (λ (u : ConsoleOutcome). u .state) (taking-image s c room e r) ∙ told-state room (run c (resumed s) .0) (run c (resumed s) .1)
 
 pub taken-by : (s : Saved) (c room : List ℕ) → sound s ≡ true → mostOctets ≤ length room → taking (image s) c room .taken ≡ run c (resumed s) .0
-taken-by s c room e r = ap (λ (u : Outcome). u .taken) (taking-image s c room e r) ∙ told-taken room (run c (resumed s) .0) (run c (resumed s) .1)
+taken-by s c room e r = ap (λ (u : ConsoleOutcome). u .taken) (taking-image s c room e r) ∙ told-taken room (run c (resumed s) .0) (run c (resumed s) .1)
 
 pub sound-after : (s : Saved) (c : List ℕ) → sound s ≡ true → AllOctets c → sound (saved (run c (resumed s) .1)) ≡ true
 sound-after s c e o = good-run c (resumed s) (ap sound (saved-resumed s) ∙ e) o
@@ -116,17 +116,17 @@ unfolding resumed saved told handed counted
 call-hears (going f) c rest u room h r e o w q =
     let t : taking (image (going f)) c room ≡ told room (run c (inside f)) = taking-image (going f) c room e r in
     let k : taking (image (going f)) c room .taken ≡ run c (inside f) .0 = taken-by (going f) c room e r in
-    ap (λ (x : Outcome). adding x h) t
+    ap (λ (x : ConsoleOutcome). adding x h) t
     ∙ told-adds room u (drop (run c (inside f) .0) c ++ rest) (run c (inside f) .0) (run c (inside f) .1) h (good-run c (inside f) e o) (λ n z. wrong-taken c f n z)
-    (λ z. w (ap (λ (x : Outcome). x .number) t ∙ z) ∙ ap (λ (i : ℕ). drop i c ++ rest) k) q
+    (λ z. w (ap (λ (x : ConsoleOutcome). x .number) t ∙ z) ∙ ap (λ (i : ℕ). drop i c ++ rest) k) q
     ∙ sym (hears-call c rest f)
 call-hears (ended n) c rest u room h r e o w q =
     let t : taking (image (ended n)) c room ≡ told room (0, wrong n) = taking-image (ended n) c room e r ∙ ap (told room) (run-wrong c n) in
     let k : h ≡ hears u (ended n) = q ∙ ap (λ (x : ℕ × Step). hears u (saved (x .1))) (run-wrong c n) in
-    ap (λ (x : Outcome). adding x h) t ∙ rw (ne-eqb n 0 (refuses n e)) (k ∙ hears-ended u n ∙ sym (hears-ended (c ++ rest) n))
+    ap (λ (x : ConsoleOutcome). adding x h) t ∙ rw (ne-eqb n 0 (refuses n e)) (k ∙ hears-ended u n ∙ sym (hears-ended (c ++ rest) n))
 
 -- the chunks still to come have the octets that were not taken
-again-flat : (c : List ℕ) (cs : List (List ℕ)) (o : Outcome) → o .number ≡ 0 → flatten (again o c cs) ≡ drop (o .taken) c ++ flatten cs
+again-flat : (c : List ℕ) (cs : List (List ℕ)) (o : ConsoleOutcome) → o .number ≡ 0 → flatten (again o c cs) ≡ drop (o .taken) c ++ flatten cs
 unfolding again flatten
 again-flat c cs o e = rw e (go (ltb (o .taken) (length c)) refl)
   where
@@ -134,7 +134,7 @@ again-flat c cs o e = rw e (go (ltb (o .taken) (length c)) refl)
     go true e = refl
     go false e = rw (drop-of-length-le c {i = o .taken} (ltb-false (o .taken) (length c) e))
 
-pub again-octets : (c : List ℕ) (cs : List (List ℕ)) (o : Outcome) → AllOctets (flatten (c ∷ cs)) → AllOctets (flatten (again o c cs))
+pub again-octets : (c : List ℕ) (cs : List (List ℕ)) (o : ConsoleOutcome) → AllOctets (flatten (c ∷ cs)) → AllOctets (flatten (again o c cs))
 unfolding again flatten
 again-octets c cs o h = go (eqb (o .number) 0 && ltb (o .taken) (length c))
   where
@@ -162,11 +162,11 @@ run-within (o ∷ os) (inside f) = omega (arith, run-within os (step f o))
 run-within (o ∷ os) (whole m) = omega arith
 run-within (o ∷ os) (wrong n) = omega arith
 
-left-over : (n : ℕ) (xs : List ℕ) (o : Outcome) → o .taken ≤ length (take n xs) → o .number ≡ 0 → untaken o n xs ≡ drop (o .taken) (take n xs) ++ drop n xs
+left-over : (n : ℕ) (xs : List ℕ) (o : ConsoleOutcome) → o .taken ≤ length (take n xs) → o .number ≡ 0 → untaken o n xs ≡ drop (o .taken) (take n xs) ++ drop n xs
 unfolding untaken
 left-over n xs o h e = rw e (ap (drop (o .taken)) (sym (take-append-drop n xs)) ∙ drop-append-le (o .taken) (take n xs) (drop n xs) h)
 
-untaken-octets : (n : ℕ) (xs : List ℕ) (o : Outcome) → AllOctets xs → AllOctets (untaken o n xs)
+untaken-octets : (n : ℕ) (xs : List ℕ) (o : ConsoleOutcome) → AllOctets xs → AllOctets (untaken o n xs)
 unfolding untaken
 untaken-octets n xs o h = octets-drop (cond (eqb (o .number) 0) (o .taken) n) xs h
 

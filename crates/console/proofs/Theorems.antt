@@ -15,8 +15,8 @@ use Rattle.octets.proofs.PartLaws.{zeros-append, length-zeros}
 use Rattle.message.specs.Answer.{mostOctets}
 use Rattle.console.specs.Frames.{mark, frame, fresh, Step, inside, whole, wrong, sized, step, run, headerWrong, lengthOver}
 use Rattle.console.specs.State.{Saved, going, ended, saved, resumed, image, savedOf, sound, isLeft, stateSize}
-use Rattle.console.specs.Calls.{Outcome, refused, told, taking}
-use Rattle.console.specs.Places.{front}
+use Rattle.console.specs.Calls.{ConsoleOutcome, refused, told, taking}
+use Rattle.console.specs.Positions.{front}
 use Rattle.console.specs.Streams.{Heard, noted, again, Session, over, call, hears, AllOctets}
 use Rattle.console.specs.Theorems.{CuttingLaw, HostsLaw, ChunksLaw, SessionsEnd, StaysLeft, StreamLeaves, LeftExactly, ShortRoom, BadState, KeepsRoom, Repeats, FirstWrongOctet, FifthOctet, FreshIsZero, FramedLaw, BatchHeard}
 use Rattle.console.proofs.RunLaws.{run-wrong}
@@ -127,7 +127,7 @@ pub rooms : KeepsRoom
 unfolding taking
 rooms b chunk room h = go (ltb (length room) mostOctets) (isLeft b) h
   where
-    o : Bool → Bool → Outcome
+    o : Bool → Bool → ConsoleOutcome
     o t u = cond t (refused 1 room b) (cond u (told room (run chunk (resumed (savedOf b)))) (refused 21 room b))
 
     go : (t u : Bool) → (o t u .number ≡ 0 → ⊥) → (o t u .room ≡ room) × (o t u .complete ≡ 0) × (o t u .count ≡ 0)

@@ -1,7 +1,7 @@
 pub mod Frames
 pub mod State
 pub mod Calls
-pub mod Places
+pub mod Positions
 pub mod Streams
 pub mod Batch
 pub mod Theorems

@@ -8,7 +8,7 @@ use lib.ListN.{length, take, drop, getD}
 use Rattle.message.specs.Answer.{mostOctets}
 use Rattle.console.specs.Frames.{Step, inside, whole, wrong, step}
 use Rattle.console.specs.State.{Saved, going, ended, saved, image}
-use Rattle.console.specs.Calls.{Outcome, taking}
+use Rattle.console.specs.Calls.{ConsoleOutcome, taking}
 
 -- the messages in their order, the refusals, and the state that remains
 pub record Heard : Type 0 where
@@ -20,18 +20,18 @@ abbrev pub silent : List ℕ → Heard
 silent b = record { messages = []; refusals = []; remains = b }
 
 -- the message that a call hands out, if it does
-unfoldable pub handed : Outcome → List (List ℕ)
+unfoldable pub handed : ConsoleOutcome → List (List ℕ)
 handed t = cond (eqb (t .complete) 1) (take (t .count) (t .room) ∷ []) []
 
 -- the call's refusal, "the repeats not counting": a wrong octet is taken, and a repeat takes none
-unfoldable pub counted : Outcome → List ℕ
+unfoldable pub counted : ConsoleOutcome → List ℕ
 counted t = cond (eqb (t .number) 0 || eqb (t .taken) 0) [] (t .number ∷ [])
 
-abbrev pub adding : Outcome → Heard → Heard
+abbrev pub adding : ConsoleOutcome → Heard → Heard
 adding t h = record { messages = handed t ++ h .messages; refusals = counted t ++ h .refusals; remains = h .remains }
 
 -- the chunks still to come: "untaken octets offered again", before the others; not after a refusal
-unfoldable pub again : Outcome → List ℕ → List (List ℕ) → List (List ℕ)
+unfoldable pub again : ConsoleOutcome → List ℕ → List (List ℕ) → List (List ℕ)
 again t c cs = cond (eqb (t .number) 0 && ltb (t .taken) (length c)) (drop (t .taken) c ∷ cs) cs
 
 -- a host that offers chunks, each call with a room that is long enough, and hears h in all
@@ -57,7 +57,7 @@ abbrev pub AllOctets : List ℕ → Type 0
 AllOctets xs = (i : ℕ) → getD xs i 0 < 256
 
 -- what is left of the octets xs after a call that was offered the first n
-unfoldable pub untaken : Outcome → (n : ℕ) (xs : List ℕ) → List ℕ
+unfoldable pub untaken : ConsoleOutcome → (n : ℕ) (xs : List ℕ) → List ℕ
 untaken t n xs = drop (cond (eqb (t .number) 0) (t .taken) n) xs
 
 -- any host: at each call it offers as many of the octets left as it likes, none too, those that an earlier call did not take before the others

@@ -1,6 +1,6 @@
 // The header of a frame, octet by octet.
 ghost use mathlib.Core.Path.{_≡_};
-ghost use Rattle.console.specs.Places.{InHeader, NextPlace, HeadOf};
+ghost use Rattle.console.specs.Positions.{InHeader, NextPosition, HeadOf};
 use message::answer::MOST_OCTETS;
 
 // The octets of a header, all of them but the last, and those before the message length.
@@ -19,54 +19,54 @@ pub const HEADER_WRONG: u8 = 21;
 pub const LENGTH_OVER: u8 = 22;
 
 // A number that ends the stream; or, with number 0, how many octets of the header are there and the message length so far.
-pub struct Place {
+pub struct Position {
     pub number: u8,
     pub count: usize,
     pub size: usize,
 }
 
-fn place_at(count: usize, size: usize) -> Place
+fn position_at(count: usize, size: usize) -> Position
     ensures { λ r. ⌜ r ≡ record { number = 0; count = count; size = size } ⌝ }
 {
-    Place {
+    Position {
         number: 0,
         count: count,
         size: size,
     }
 }
 
-fn wrong_place(number: u8) -> Place
+fn wrong_position(number: u8) -> Position
     ensures { λ r. ⌜ r ≡ record { number = number; count = 0; size = 0 } ⌝ }
 {
-    Place {
+    Position {
         number: number,
         count: 0,
         size: 0,
     }
 }
 
-// What the next octet of a header makes of a place in it.
-fn next_place(count: usize, size: usize, octet: u8) -> Place
+// What the next octet of a header makes of a position in it.
+fn next_position(count: usize, size: usize, octet: u8) -> Position
     requires { ⌜ InHeader count size ⌝ }
-    ensures { λ r. ⌜ NextPlace count size octet r ⌝ }
+    ensures { λ r. ⌜ NextPosition count size octet r ⌝ }
 {
     if count < MARK_OCTETS {
         if octet == MARK[count] {
-            return place_at(count + 1, 0);
+            return position_at(count + 1, 0);
         }
-        return wrong_place(HEADER_WRONG);
+        return wrong_position(HEADER_WRONG);
     }
     if count == MARK_OCTETS {
-        return place_at(count + 1, octet as usize * 256);
+        return position_at(count + 1, octet as usize * 256);
     }
     let length = size + octet as usize;
     if MOST_OCTETS < length {
-        return wrong_place(LENGTH_OVER);
+        return wrong_position(LENGTH_OVER);
     }
-    place_at(HEADER_OCTETS, length)
+    position_at(HEADER_OCTETS, length)
 }
 
-// A place, and how many octets of a chunk lead there.
+// A position, and how many octets of a chunk lead there.
 pub struct Head {
     pub taken: usize,
     pub number: u8,
@@ -83,7 +83,7 @@ pub fn read_header(chunk: &[u8], count: usize, size: usize) -> Head
     let mut z = size;
     let mut i = 0;
     while i < chunk.len() {
-        let p = next_place(c, z, chunk[i]);
+        let p = next_position(c, z, chunk[i]);
         i += 1;
         if p.number != 0 {
             return Head {

@@ -12,7 +12,7 @@ ghost use Rattle.message.specs.Answer.{mostOctets};
 ghost use Rattle.console.specs.Frames.{heading, inside, arrived, run, headerOctets};
 ghost use Rattle.console.specs.State.{atContents};
 ghost use Rattle.console.specs.Calls.{outcome, told, taking, resetting};
-ghost use Rattle.console.specs.Places.{moved, InHeader, Tail};
+ghost use Rattle.console.specs.Positions.{moved, InHeader, Tail};
 use header::HEADER_OCTETS;
 use header::HEADER_WRONG;
 use header::read_header;
@@ -81,7 +81,7 @@ fn take_contents(
     }
 }
 
-// Takes octets from a place in a header on.
+// Takes octets from a position in a header on.
 fn take_header(
     saved: &mut [u8],
     chunk: &[u8],

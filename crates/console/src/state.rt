@@ -3,7 +3,7 @@ ghost use mathlib.Core.Path.{_≡_};
 ghost use mathlib.Core.List.{[], _++_};
 ghost use lib.ListN.{length, drop};
 ghost use Rattle.console.specs.State.{isLeft, state, stateSize, atContents};
-ghost use Rattle.console.specs.Places.{front, numbersOk, heldIn};
+ghost use Rattle.console.specs.Positions.{front, numbersOk, heldIn};
 use super::header::HEADER_WRONG;
 use super::header::LAST_MISSING;
 use super::header::LENGTH_OVER;

@@ -23,7 +23,7 @@ use Rattle.message.specs.declared.form.Checked.{Checked}
 use Rattle.message.specs.declared.request.Head.{Head}
 use Rattle.message.specs.declared.request.Binding.{Binding}
 use Rattle.message.specs.declared.request.BindingRead.{BindingRead}
-use Rattle.message.specs.Form.{fieldAt, tagAllowed, lengthRight, refusal, judged, checkedAt, atKindField, atKind, atIdField, atStatusField, headSize, mostBindings}
+use Rattle.message.specs.Form.{fieldAt, tagAllowed, lengthRight, refusal, fieldJudged, checkedAt, atKindField, atKind, atIdField, atStatusField, headSize, mostBindings}
 use Rattle.message.specs.Request.{checkedThen, statusAllowed, statusOf, idOf, contentRole, contentIn, bindingTagAt, notBinding, seventeenth, Bindings, ended, all, prepend, bindingThen, noBinding, withBindings}
 use Rattle.message.specs.Answer.{Bound, mostOctets, boundAt}
 use Rattle.message.proofs.FormLaws.{InPlace, told, cond-cases, clash}
@@ -274,10 +274,10 @@ Placed at (Checked.Refused r) = r .at ≡ at
 Placed at (Checked.Found tag start len) = Unit {0}
 
 placed : (p : Role) (s : List ℕ) (at end : ℕ) → Placed at (checkedAt p s at end)
-unfolding checkedAt judged
+unfolding checkedAt fieldJudged
 placed p s at end = go (fieldAt s at end)
   where
-    go : (f : Field) → Placed at (judged p at f)
+    go : (f : Field) → Placed at (fieldJudged p at f)
     go Cut = refl
     go (Whole tag start len) = cond-cases (Placed at) (tagAllowed p tag) (λ _. cond-cases (Placed at) (lengthRight p tag len) (λ _. tt) (λ _. refl)) (λ _. refl)
 

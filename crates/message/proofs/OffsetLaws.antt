@@ -17,7 +17,7 @@ use Rattle.message.specs.declared.form.Checked.{Checked}
 use Rattle.message.specs.declared.request.Head.{Head}
 use Rattle.message.specs.declared.request.Binding.{Binding}
 use Rattle.message.specs.declared.request.BindingRead.{BindingRead}
-use Rattle.message.specs.Form.{fieldAt, tagAllowed, lengthRight, judged, checkedAt, refusal, atKindField, atKind, atIdField, atStatusField, atStatus, atIndex, headSize, mostBindings}
+use Rattle.message.specs.Form.{fieldAt, tagAllowed, lengthRight, fieldJudged, checkedAt, refusal, atKindField, atKind, atIdField, atStatusField, atStatus, atIndex, headSize, mostBindings}
 use Rattle.message.specs.Request.{Takes, kindAllowed, statusAllowed, statusOf, idOf, headOf, contentRole, contentIn, bindingIn, bindingAt, bindingTagAt, seventeenth, notBinding, Bindings, ended, all, prepend, bindingThen, bindingsFrom, Reading, refused, message, checkedThen, headThen, withBindings, readMessage}
 use Rattle.message.specs.Theorems.{FieldStart, first, behind, enclosed, Placed, RefusedWhere, BindingsTo, Seventeenth, EightExactly}
 use Rattle.message.proofs.FormLaws.{InPlace, Numbered, told, clash, kind-fits, id-fits, status-fits, cond-cases}
@@ -28,10 +28,10 @@ StandsAt s at end (Checked.Refused r) = (r .at ≡ at) × (r .number < 8)
 StandsAt s at end (Checked.Found tag start len) = fieldAt s at end ≡ Whole tag start len
 
 stands : (p : Role) (s : List ℕ) (at end : ℕ) → StandsAt s at end (checkedAt p s at end)
-unfolding checkedAt judged
+unfolding checkedAt fieldJudged
 stands p s at end = go (fieldAt s at end) refl
   where
-    go : (f : Field) → fieldAt s at end ≡ f → StandsAt s at end (judged p at f)
+    go : (f : Field) → fieldAt s at end ≡ f → StandsAt s at end (fieldJudged p at f)
     go Cut h = (refl, omega arith)
     go (Whole tag start len) h =
         cond-cases (StandsAt s at end) (tagAllowed p tag) (λ _. cond-cases (StandsAt s at end) (lengthRight p tag len) (λ _. h) (λ _. (refl, omega arith))) (λ _. (refl, omega arith))

@@ -19,7 +19,7 @@ use Rattle.block.specs.Lookup.{lookup}
 use Rattle.block.specs.Alter.{alter}
 use Rattle.block.specs.declared.rows.StaticRow.{StaticRow}
 use Rattle.answer.specs.Writes.{those, ordered, has, count, full, play, playRow}
-use Rattle.answer.specs.Judge.{reading, alone, among, judgedFrom}
+use Rattle.answer.specs.Judge.{contentSaid, alone, among, judgedFrom}
 use Rattle.answer.specs.Set.{gather, rowFault, firstFault, verdict, setCells, apply, after}
 use Rattle.answer.specs.Cases.{fourPorts, staticStatus}
 use Rattle.answer.proofs.Cases.{says, leaves, accepted, fault}
@@ -42,6 +42,6 @@ pub record RoomAgain (a : List ℕ) : Type 0 where
 
 pub room-again : (a : List ℕ) → RoomAgain a
 unfolding fresh freshColumns freshColumn times freshVlan zeros portsTo onlyTo disjoint setOf portOctets beAt beOctets objects placeUnder placeOf isPrefix
-    within weight digits number keyIn same lookup alter fitTo cellsIn reading tableFrom tableOf alone among judgedFrom
+    within weight digits number keyIn same lookup alter fitTo cellsIn contentSaid tableFrom tableOf alone among judgedFrom
     those ordered has count full play playRow gather rowFault firstFault verdict setCells apply after volatileTo stay
 room-again a = record { many = refl; before = refl; one-stays = refl; accepted-after = refl; two-stand = refl }

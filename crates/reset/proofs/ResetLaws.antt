@@ -18,7 +18,7 @@ use Rattle.block.proofs.ImageLaws.{length-image}
 use Rattle.block.specs.Stored.{StaticFits, Storable}
 use Rattle.block.proofs.RoundLaws.{contentOf-stored}
 use Rattle.reset.specs.Reset.{goes, stay, afterReset}
-use Rattle.reset.specs.Closing.{closing, Held, rowAt, moved, nextPlace}
+use Rattle.reset.specs.Closing.{closing, IsImage, rowAt, moved, nextFree}
 
 abbrev Entry : Type 0
 Entry = ℕ × StaticRow
@@ -177,12 +177,12 @@ turned-storable c i s h =
     }
 
 -- the image of a content that is read back is held, and has a block's size
-pub stored-held : (c : Content) → Storable c → {b : List ℕ} → b ≡ image c → (contentOf b ≡ c) × Held b
+pub stored-held : (c : Content) → Storable c → {b : List ℕ} → b ≡ image c → (contentOf b ≡ c) × IsImage b
 stored-held c s {b} e =
     let r : contentOf b ≡ c = ap contentOf e ∙ contentOf-stored c s in
     (r, record { same = ap image r ∙ sym e; shape = subst WellFormed (sym r) (s .shape) })
 
-pub held-sized : {b : List ℕ} → Held b → Sized b
+pub held-sized : {b : List ℕ} → IsImage b → Sized b
 held-sized {b} h =
     record {
       long = ap length (sym (h .same)) ∙ length-image (contentOf b) (h .shape);
@@ -194,7 +194,7 @@ held-sized {b} h =
 -- one turn
 pub turn : (c : Content) (i : ℕ) → i < length (c .statics)
     → (moved (turned c i) (length (stay (take i (c .statics)))) i ≡ turned c (i + 1))
-    × (nextPlace (turned c i) (length (stay (take i (c .statics)))) i ≡ length (stay (take (i + 1) (c .statics))))
+    × (nextFree (turned c i) (length (stay (take i (c .statics)))) i ≡ length (stay (take (i + 1) (c .statics))))
 turn c i h = go (goes (getD (c .statics) i noStatic .1)) refl
   where
     row : rowAt (turned c i) i ≡ getD (c .statics) i noStatic
@@ -204,7 +204,7 @@ turn c i h = go (goes (getD (c .statics) i noStatic .1)) refl
     one = omega arith
 
     go : (b : Bool) → goes (getD (c .statics) i noStatic .1) ≡ b
-        → (moved (turned c i) (length (stay (take i (c .statics)))) i ≡ turned c (i + 1)) × (nextPlace (turned c i) (length (stay (take i (c .statics)))) i ≡ length (stay (take (i + 1) (c .statics))))
+        → (moved (turned c i) (length (stay (take i (c .statics)))) i ≡ turned c (i + 1)) × (nextFree (turned c i) (length (stay (take i (c .statics)))) i ≡ length (stay (take (i + 1) (c .statics))))
     go true q =
         let s : stay (take i (c .statics)) ≡ stay (take (i + 1) (c .statics)) = sym (closing-drops (c .statics) i noStatic h q) ∙ ap (λ (m : ℕ). stay (take m (c .statics))) one in
         let t : goes (rowAt (turned c i) i .1) ≡ true = ap (λ (e : Entry). goes (e .1)) row ∙ q in

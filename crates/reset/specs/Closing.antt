@@ -15,16 +15,16 @@ abbrev pub closing : (xs es : List (ℕ × StaticRow)) → List (ℕ × StaticRo
 closing xs es = stay xs ++ drop (length (stay xs)) es
 
 -- octets that are the image of the content that they say
-pub record Held (b : List ℕ) : Type 0 where
+pub record IsImage (b : List ℕ) : Type 0 where
   pub same : image (contentOf b) ≡ b
   pub shape : WellFormed (contentOf b)
 
--- a turn: the row at place i is written at place j if it stays; and the next place
+-- a turn: the row at place i is written at place j if it stays; and the next free place
 abbrev pub rowAt : Content → ℕ → ℕ × StaticRow
 rowAt c i = getD (c .statics) i noStatic
 
 abbrev pub moved : Content → (j i : ℕ) → Content
 moved c j i = cond (goes (rowAt c i .1)) c (staticPut c j (rowAt c i .0) (rowAt c i .1))
 
-abbrev pub nextPlace : Content → (j i : ℕ) → ℕ
-nextPlace c j i = cond (goes (rowAt c i .1)) j (j + 1)
+abbrev pub nextFree : Content → (j i : ℕ) → ℕ
+nextFree c j i = cond (goes (rowAt c i .1)) j (j + 1)

@@ -8,7 +8,7 @@ ghost use Rattle.block.specs.Content.{Content, WellFormed, withStatics};
 ghost use Rattle.block.specs.Image.{image, contentOf};
 ghost use Rattle.block.specs.Valid.{legal};
 ghost use Rattle.reset.specs.Reset.{stay, afterReset};
-ghost use Rattle.reset.specs.Closing.{closing, Held, moved, nextPlace};
+ghost use Rattle.reset.specs.Closing.{closing, IsImage, moved, nextFree};
 use block::changes::change_static;
 use block::layout::AT_STATIC_COUNT;
 use block::layout::AT_STATICS;
@@ -25,8 +25,8 @@ const DELETE_ON_RESET: u8 = 4;
 
 // Writes the row at place i at place kept if it stays, and gives the next place.
 fn move_row(block: &mut [u8], kept: usize, i: usize) -> usize
-    requires { ⌜ Held (now block) × (i < length (contentOf (now block) .statics)) × (kept ≤ i) ⌝ }
-    ensures { λ r. ⌜ (r ≡ nextPlace (contentOf (now (block .entry))) kept i) × (now (block .exit) ≡ image (moved (contentOf (now (block .entry))) kept i)) ⌝ }
+    requires { ⌜ IsImage (now block) × (i < length (contentOf (now block) .statics)) × (kept ≤ i) ⌝ }
+    ensures { λ r. ⌜ (r ≡ nextFree (contentOf (now (block .entry))) kept i) × (now (block .exit) ≡ image (moved (contentOf (now (block .entry))) kept i)) ⌝ }
 {
     let row = static_entry(block, i);
     if row.status == DELETE_ON_RESET {

@@ -9,7 +9,7 @@ use lib.ListN.{length-map}
 use borrow.Author.Tests.{eqb-true, eqb-false, eq-eqb, ne-eqb, leb-true, le-leb, not-false}
 use Rattle.tally.specs.declared.RbCase.{RbCase}
 use Rattle.tally.specs.Codes.{stateNotRun, stateRunning, stateBroken, eventStart, eventPass, eventFail, eventCrash, eventEnd, markClear}
-use Rattle.tally.specs.Run.{countIf, someIf, allIf, hasId, running, known, above, ascending, legalCases, markFits, legal, unknown, notStartable, noneRunning, stateOf, stateAfter, changed, became, markAfter}
+use Rattle.tally.specs.Run.{countIf, someIf, allIf, hasId, running, known, above, ascending, legalCases, markFits, legalRun, unknown, notStartable, noneRunning, stateOf, stateAfter, changed, became, markAfter}
 use Rattle.tally.specs.History.{Event, names, closedBy, told, toldFrom, asToldFrom}
 use Rattle.tally.proofs.TestLaws.{by-bool, and-left, and-right, not-both-ways}
 use Rattle.tally.proofs.CaseLaws.{count-none, none-count, ascending-once, Legal, legal-parts, parts-legal}
@@ -157,12 +157,12 @@ told-close event id es c n l h f =
 -- ---- an accepted event, by its kind
 module _ (cs : List RbCase) (m event id : ℕ) (a : Taken cs m event id) where
   lawful : Legal cs
-  unfolding legal
+  unfolding legalRun
   lawful = legal-parts cs (and-left (legalCases cs) (markFits m (someIf running cs)) (a .is-legal))
 
   -- the mark is clear
   clear : m ≡ 0
-  unfolding legal markFits
+  unfolding legalRun markFits
   clear =
       by-bool (eqb m markClear) (λ t. eqb-true m 0 t)
       (λ t. let e = and-right (legalCases cs) (markFits m (someIf running cs)) (a .is-legal) in not-both-ways (rw (t, a .unended) at e) refl)
@@ -244,8 +244,8 @@ module _ (cs : List RbCase) (m event id : ℕ) (a : Taken cs m event id) where
       by-bool (eqb event eventStart) (λ t. ap (λ (l : List RbCase). map (asToldFrom es) l) (start-is t) ∙ start-told t es ∙ rw (eqb-true event eventStart t))
       (λ t. ap (λ (l : List RbCase). map (asToldFrom es) l) (other-is t) ∙ other-told t es)
 
-  pub legal-on : legal (map (became event id) cs) (markAfter event m) ≡ true
-  unfolding legal markFits markAfter
+  pub legal-on : legalRun (map (became event id) cs) (markAfter event m) ≡ true
+  unfolding legalRun markFits markAfter
   legal-on =
       by-bool (eqb event eventStart)
       (λ t. rw (start-is t, parts-legal (map (changed (hasId id) stateRunning) cs) (start-legal t), eqb-true event eventStart t, clear))

@@ -8,17 +8,17 @@ use lib.Dec.{eqb, leb}
 use borrow.Author.Tests.{eqb-true, leb-false, ne-eqb, not-false}
 use Rattle.tally.specs.declared.RbCase.{RbCase}
 use Rattle.tally.specs.Codes.{eventStart, eventFail, markSet, refusedUnknown, refusedStart, refusedVerdict, refusedEnded, refusedRun}
-use Rattle.tally.specs.Run.{someIf, hasId, running, legal, judged, unknown, notStartable, noneRunning, stateOf, number}
+use Rattle.tally.specs.Run.{someIf, hasId, running, legalRun, eventJudged, unknown, notStartable, noneRunning, stateOf, number}
 use Rattle.tally.proofs.TestLaws.{by-bool}
 
 -- where the id is not listed, no number depends on a state
-unlisted : (ok : Bool) (m event : ℕ) (runs : Bool) (a b : ℕ) → judged ok m event false runs a ≡ judged ok m event false runs b
-unfolding judged unknown notStartable noneRunning
+unlisted : (ok : Bool) (m event : ℕ) (runs : Bool) (a b : ℕ) → eventJudged ok m event false runs a ≡ eventJudged ok m event false runs b
+unfolding eventJudged unknown notStartable noneRunning
 unlisted ok m event runs a b =
     by-bool (leb event eventFail) (λ t. rw (t, or-true))
     (λ t. let l = leb-false event eventFail t in let n : eqb event eventStart ≡ false = ne-eqb event eventStart (λ e. omega (arith, l, e)) in rw (t, n))
 
-pub judged-same : (ok : Bool) (m event : ℕ) (listed runs : Bool) (a b : ℕ) → (listed ≡ true → a ≡ b) → judged ok m event listed runs a ≡ judged ok m event listed runs b
+pub judged-same : (ok : Bool) (m event : ℕ) (listed runs : Bool) (a b : ℕ) → (listed ≡ true → a ≡ b) → eventJudged ok m event listed runs a ≡ eventJudged ok m event listed runs b
 judged-same ok m event true runs a b e = rw (e refl)
 judged-same ok m event false runs a b e = unlisted ok m event runs a b
 
@@ -34,8 +34,8 @@ passes : (t : Bool) (k x : ℕ) → 0 < k → cond t k x ≡ 0 → (t ≡ false)
 passes true k x h e = absurd (omega arith)
 passes false k x h e = (refl, e)
 
-pub accepted : (ok : Bool) (m event : ℕ) (listed runs : Bool) (state : ℕ) → judged ok m event listed runs state ≡ 0 → Accepted ok m event listed runs state
-unfolding judged
+pub accepted : (ok : Bool) (m event : ℕ) (listed runs : Bool) (state : ℕ) → eventJudged ok m event listed runs state ≡ 0 → Accepted ok m event listed runs state
+unfolding eventJudged
 accepted ok m event listed runs state e =
     let a = passes (not ok) refusedRun _ (omega arith) e in
     let b = passes (eqb m markSet) refusedEnded _ (omega arith) (a .1) in
@@ -51,8 +51,8 @@ start-listed event listed t e = not-false listed (rw (eqb-true event eventStart 
 
 module _ (cs : List RbCase) (m event id : ℕ) where
   abbrev pub Taken : Type 0
-  Taken = Accepted (legal cs m) m event (someIf (hasId id) cs) (someIf running cs) (stateOf id cs)
+  Taken = Accepted (legalRun cs m) m event (someIf (hasId id) cs) (someIf running cs) (stateOf id cs)
 
   pub taken : eqb (number cs m event id) 0 ≡ true → Taken
   unfolding number
-  taken t = accepted (legal cs m) m event (someIf (hasId id) cs) (someIf running cs) (stateOf id cs) (eqb-true (number cs m event id) 0 t)
+  taken t = accepted (legalRun cs m) m event (someIf (hasId id) cs) (someIf running cs) (stateOf id cs) (eqb-true (number cs m event id) 0 t)

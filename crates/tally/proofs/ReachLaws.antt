@@ -9,7 +9,7 @@ use lib.ListN.{length, length-map}
 use borrow.Author.Tests.{eqb-true, eqb-false, eq-eqb, ne-eqb, leb-true, leb-false, le-leb, not-true, not-false}
 use Rattle.tally.specs.declared.RbCase.{RbCase}
 use Rattle.tally.specs.Codes.{mostCases, stateNotRun, stateRunning, stateFailed, stateBroken, eventStart, eventCrash, eventEnd, markClear, markSet, accepted}
-use Rattle.tally.specs.Run.{countIf, someIf, allIf, hasId, running, known, isNotRun, ascending, legalCases, markFits, legal, judged, unknown, notStartable, noneRunning, stateOf, number, stateAfter, restated, changed, became, markAfter}
+use Rattle.tally.specs.Run.{countIf, someIf, allIf, hasId, running, known, isNotRun, ascending, legalCases, markFits, legalRun, eventJudged, unknown, notStartable, noneRunning, stateOf, number, stateAfter, restated, changed, became, markAfter}
 use Rattle.tally.specs.History.{Run, Event, fed, after, newRun}
 use Rattle.tally.proofs.TestLaws.{by-bool, and-left, and-right, not-both-ways}
 use Rattle.tally.proofs.CaseLaws.{count-none, none-count, change-none, ascending-once, Legal, legal-parts, parts-legal}
@@ -90,19 +90,19 @@ pick p (c ∷ cs) u e =
     smaller k = by-bool (hasId k c) (λ s. omega (arith, rw s at (u k))) (λ s. rw s at (u k))
 
 -- ---- accepted events
-judged-start : judged true markClear eventStart true false stateNotRun ≡ accepted
-unfolding judged unknown notStartable noneRunning
+judged-start : eventJudged true markClear eventStart true false stateNotRun ≡ accepted
+unfolding eventJudged unknown notStartable noneRunning
 judged-start = refl
 
-judged-close : (event : ℕ) → eqb event eventStart ≡ false → eventStart ≤ event → event ≤ eventEnd → judged true markClear event true true stateRunning ≡ accepted
-unfolding judged unknown notStartable noneRunning
-judged-close = by-kind (λ event. judged true markClear event true true stateRunning ≡ accepted) refl refl refl refl
+judged-close : (event : ℕ) → eqb event eventStart ≡ false → eventStart ≤ event → event ≤ eventEnd → eventJudged true markClear event true true stateRunning ≡ accepted
+unfolding eventJudged unknown notStartable noneRunning
+judged-close = by-kind (λ event. eventJudged true markClear event true true stateRunning ≡ accepted) refl refl refl refl
 
-judged-end : (listed runs : Bool) (state : ℕ) → judged true markClear eventEnd listed runs state ≡ accepted
-unfolding judged unknown notStartable noneRunning
+judged-end : (listed runs : Bool) (state : ℕ) → eventJudged true markClear eventEnd listed runs state ≡ accepted
+unfolding eventJudged unknown notStartable noneRunning
 judged-end listed runs state = refl
 
-module _ (cs : List RbCase) (ok : legal cs 0 ≡ true) where
+module _ (cs : List RbCase) (ok : legalRun cs 0 ≡ true) where
   abbrev now : Run
   now = record { cases = cs; mark = markClear }
 
@@ -139,8 +139,8 @@ module _ (cs : List RbCase) (l : Legal cs) (id : ℕ) (listed : someIf (hasId id
     single = rw (none-count running back back-free) (omega arith);
   }
 
-  back-legal : legal back 0 ≡ true
-  unfolding legal markFits
+  back-legal : legalRun back 0 ≡ true
+  unfolding legalRun markFits
   back-legal = rw (parts-legal back back-parts)
 
   abbrev begun : List RbCase
@@ -149,7 +149,7 @@ module _ (cs : List RbCase) (l : Legal cs) (id : ℕ) (listed : someIf (hasId id
   begin-it : fed (record { cases = back; mark = markClear }) (record { kind = eventStart; id = id }) ≡ record { cases = begun; mark = markClear }
   begin-it = start-fed back back-legal id (listed-set id 0 cs ∙ listed) back-free (state-set id 0 cs listed)
 
-  begun-legal : legal begun 0 ≡ true
+  begun-legal : legalRun begun 0 ≡ true
   unfolding became stateAfter markAfter number
   begun-legal = legal-on back 0 1 id (taken back 0 1 id (rw (back-legal, listed-set id 0 cs ∙ listed, back-free, state-set id 0 cs listed, judged-start)))
 
@@ -234,7 +234,7 @@ reach (suc n) cs few l =
 
 -- an ended run was reached before its end
 pub reach-end : (cs : List RbCase) → legalCases cs ≡ true → someIf running cs ≡ false → (es : List Event) × (after (newRun cs) es ≡ record { cases = cs; mark = markSet })
-unfolding Reached after legal markFits
+unfolding Reached after legalRun markFits
 reach-end cs ok n =
     let r = reach (countIf started cs) cs (omega arith) (legal-parts cs ok) in
     (r .0 ++ (record { kind = eventEnd; id = 0 } ∷ []), after-two (newRun cs) (r .0) (record { kind = eventEnd; id = 0 } ∷ []) ∙ ap (λ (q : Run). fed q (record { kind = eventEnd; id = 0 })) (r .1) ∙ end-fed cs (rw ok) n)

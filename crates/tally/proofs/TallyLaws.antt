@@ -8,7 +8,7 @@ use lib.ListN.{length}
 use borrow.Author.Tests.{lt-ltb}
 use Rattle.tally.specs.declared.RbCase.{RbCase}
 use Rattle.tally.specs.Codes.{eventStart, accepted}
-use Rattle.tally.specs.Run.{countIf, someIf, hasId, running, legalCases, markFits, legal, number, stateAfter, changed, became, feed, report, stateOf}
+use Rattle.tally.specs.Run.{countIf, someIf, hasId, running, legalCases, markFits, legalRun, number, stateAfter, changed, became, feed, report, stateOf}
 use Rattle.tally.specs.Scan.{scanned, numberOf, planOf, markOf, reportOf, atWrite}
 use Rattle.tally.proofs.TestLaws.{by-bool, and-left}
 use Rattle.tally.proofs.CaseLaws.{firstIf, first-within, change-none, change-first, ascending-once, legal-parts}
@@ -16,7 +16,7 @@ use Rattle.tally.proofs.ScanLaws.{good-so, runs-so, found-so, runner-so
 use Rattle.tally.proofs.NumberLaws.{judged-same, taken, start-listed}
 
 pub reported-so : (sought : ℕ) (cs : List RbCase) (m : ℕ) → reportOf (scanned sought cs) m ≡ report cs m
-unfolding reportOf report legal
+unfolding reportOf report legalRun
 reported-so sought cs m =
     by-bool (legalCases cs) (λ t. rw (good-so sought cs, runs-so sought cs, t, counts-so sought cs 0 (legal-parts cs t .short))) (λ t. rw (good-so sought cs, t))
 
@@ -32,10 +32,10 @@ not-written cs at state = refl
 
 module _ (cs : List RbCase) (m event id : ℕ) where
   number-of-so : numberOf (scanned id cs) m event ≡ number cs m event id
-  unfolding numberOf number legal
+  unfolding numberOf number legalRun
   number-of-so =
       rw (good-so id cs, runs-so id cs, found-so id cs)
-      (judged-same (legal cs m) m event (someIf (hasId id) cs) (someIf running cs) (scanned id cs .state) (stateOf id cs) (λ e. state-so id cs e))
+      (judged-same (legalRun cs m) m event (someIf (hasId id) cs) (someIf running cs) (scanned id cs .state) (stateOf id cs) (λ e. state-so id cs e))
 
   pub number-so : planOf (scanned id cs) m event .number ≡ number cs m event id
   unfolding planOf
@@ -52,7 +52,7 @@ module _ (cs : List RbCase) (m event id : ℕ) where
   write-it false ok listed = write-so running (scanned id cs .runs) (scanned id cs .runner) (stateAfter event) cs (runs-so id cs) (runner-so id cs) (legal-parts cs ok .single)
 
   pub cases-so : atWrite (planOf (scanned id cs) m event .writes) (planOf (scanned id cs) m event .at) (planOf (scanned id cs) m event .state) cs ≡ feed cs m event id .cases
-  unfolding planOf became legal
+  unfolding planOf became legalRun
   cases-so =
       by-bool (eqb (number cs m event id) 0)
       (λ t. let a = taken cs m event id t in

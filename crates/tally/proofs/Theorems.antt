@@ -9,10 +9,10 @@ use lib.ListN.{length, getD, length-map}
 use borrow.Author.Tests.{eqb-true, eqb-false, eq-eqb, leb-true, not-true}
 use Rattle.tally.specs.declared.RbCase.{RbCase}
 use Rattle.tally.specs.Codes.{stateNotRun, stateRunning, statePassed, stateFailed, stateBroken, eventStart, eventPass, eventFail, eventEnd, markClear, markSet, refusedEnded, refusedRun}
-use Rattle.tally.specs.Run.{countIf, allIf, known, isPassed, isFailed, isBroken, isNotRun, running, someIf, legalCases, markFits, legal, restated, changed, touches, stateAfter, became, markAfter, judged, number, counted, report}
+use Rattle.tally.specs.Run.{countIf, allIf, known, isPassed, isFailed, isBroken, isNotRun, running, someIf, legalCases, markFits, legalRun, restated, changed, touches, stateAfter, became, markAfter, eventJudged, number, counted, report}
 use Rattle.tally.specs.Scan.{none}
 use Rattle.tally.specs.History.{Run, Event, isLegal, accepts, fed, after, newRun, acceptedOf, names, breaks, closes, closedBy, told, asTold, toldFrom, asToldFrom, someEvent}
-use Rattle.tally.specs.Theorems.{caseAt, startOf, classes, NewLegal, LegalStays, LegalReached, AsTold, AsToldFrom, ReportTold, OneClass, SumIsLength, NeverStarted, PassedWasStarted, RunningIsBroken, BrokenUntilVerdict, RefusedKeeps, MarkTold, AfterEnd, IdsStay}
+use Rattle.tally.specs.Theorems.{caseAt, startEvent, classes, NewLegal, LegalStays, LegalReached, AsTold, AsToldFrom, ReportTold, OneClass, SumIsLength, NeverStarted, PassedWasStarted, RunningIsBroken, BrokenUntilVerdict, RefusedKeeps, MarkTold, AfterEnd, IdsStay}
 use Rattle.tally.proofs.TestLaws.{by-bool, and-left, and-right, not-both-ways}
 use Rattle.tally.proofs.CaseLaws.{legal-parts, parts-legal}
 use Rattle.tally.proofs.NumberLaws.{taken}
@@ -51,11 +51,11 @@ legal-stays r [] h = h
 legal-stays r (e ∷ es) h = legal-stays (fed r e) es (legal-step r e h)
 
 pub new-legal : NewLegal
-unfolding legal markFits
+unfolding legalRun markFits
 new-legal cs h o = rw (parts-legal (map (restated stateNotRun) cs) (new-parts cs h o))
 
 pub legal-reached : LegalReached
-unfolding legal markFits Reached
+unfolding legalRun markFits Reached
 legal-reached r h =
     let ok = and-left (legalCases (r .cases)) (markFits (r .mark) (someIf running (r .cases))) h in
     let fits = and-right (legalCases (r .cases)) (markFits (r .mark) (someIf running (r .cases))) h in
@@ -136,7 +136,7 @@ ids-stay r (e ∷ es) =
 
 -- ---- the classes
 legal-known : (r : Run) → isLegal r ≡ true → allIf known (r .cases) ≡ true
-unfolding legal
+unfolding legalRun
 legal-known r h = legal-parts (r .cases) (and-left (legalCases (r .cases)) (markFits (r .mark) (someIf running (r .cases))) h) .knows
 
 same-length : (r : Run) (es : List Event) → isLegal r ≡ true → length (after r es .cases) ≡ length (r .cases)
@@ -165,8 +165,8 @@ four-add [] h = rw (none-counted isPassed, none-counted isFailed, none-counted i
 four-add (c ∷ cs) h =
     omega (arith, four-add cs (and-right (known c) (allIf known cs) h), known-class c (and-left (known c) (allIf known cs) h), counted-one isPassed c cs, counted-one isFailed c cs, counted-one isBroken c cs, counted-one isNotRun c cs)
 
-report-adds : (cs : List RbCase) (m : ℕ) → legal cs m ≡ true → report cs m .passed + report cs m .failed + report cs m .broken + report cs m .«not_run» ≡ length cs
-unfolding report legal
+report-adds : (cs : List RbCase) (m : ℕ) → legalRun cs m ≡ true → report cs m .passed + report cs m .failed + report cs m .broken + report cs m .«not_run» ≡ length cs
+unfolding report legalRun
 report-adds cs m h = rw h (four-add cs (legal-known (record { cases = cs; mark = m }) h))
 
 pub sum-is-length : SumIsLength
@@ -215,7 +215,7 @@ new-told es (c ∷ cs) = ap (λ (l : List RbCase). asTold es c ∷ l) (new-told 
 pub as-told : AsTold
 as-told cs es short order = as-told-from (newRun cs) es (new-legal cs short order) ∙ new-told (acceptedOf (newRun cs) es) cs
 
-report-counts : (cs : List RbCase) (m : ℕ) → legal cs m ≡ true → report cs m ≡ counted cs
+report-counts : (cs : List RbCase) (m : ℕ) → legalRun cs m ≡ true → report cs m ≡ counted cs
 unfolding report
 report-counts cs m h = rw h
 
@@ -258,33 +258,33 @@ unclosed id (e ∷ es) h =
     (λ t. by-bool (names eventFail id e) (λ s. not-both-ways refl (rw (t, s) at h))
     (λ s. by-bool (breaks e) (λ u. not-both-ways refl (rw (t, s, u) at h)) (λ u. rw (t, s, u) (unclosed id es (rw (t, s, u) at h)))))
 
-module _ (r : Run) (i : ℕ) (within : i < length (r .cases)) (begins : accepts r (startOf r i) ≡ true) where
-  begun-within : i < length (fed r (startOf r i) .cases)
-  begun-within = rw (taken-cases r (startOf r i) begins, length-map (r .cases) (became eventStart (caseAt r i .id))) within
+module _ (r : Run) (i : ℕ) (within : i < length (r .cases)) (begins : accepts r (startEvent r i) ≡ true) where
+  begun-within : i < length (fed r (startEvent r i) .cases)
+  begun-within = rw (taken-cases r (startEvent r i) begins, length-map (r .cases) (became eventStart (caseAt r i .id))) within
 
-  begun-at : caseAt (fed r (startOf r i)) i ≡ record { id = caseAt r i .id; state = stateRunning }
+  begun-at : caseAt (fed r (startEvent r i)) i ≡ record { id = caseAt r i .id; state = stateRunning }
   unfolding became stateAfter
   begun-at =
-      ap (λ (l : List RbCase). getD l i none) (taken-cases r (startOf r i) begins) ∙ mapped-at (became eventStart (caseAt r i .id)) (r .cases) i within
+      ap (λ (l : List RbCase). getD l i none) (taken-cases r (startEvent r i) begins) ∙ mapped-at (became eventStart (caseAt r i .id)) (r .cases) i within
       ∙ rw (eq-eqb (caseAt r i .id) (caseAt r i .id) refl)
 
 pub broken-until-verdict : BrokenUntilVerdict
 unfolding toldFrom
 broken-until-verdict r es i within begins unclosing =
     let id = caseAt r i .id in
-    let begun = fed r (startOf r i) in
+    let begun = fed r (startEvent r i) in
     let ok : isLegal r ≡ true = taken (r .cases) (r .mark) eventStart id begins .is-legal in
-    let at : caseAt (after begun es) i ≡ asToldFrom (acceptedOf begun es) (caseAt begun i) = case-told begun es i (legal-step r (startOf r i) ok) (begun-within r i within begins) in
+    let at : caseAt (after begun es) i ≡ asToldFrom (acceptedOf begun es) (caseAt begun i) = case-told begun es i (legal-step r (startEvent r i) ok) (begun-within r i within begins) in
     let runs : caseAt (after begun es) i .state ≡ stateRunning = rw (at, begun-at r i within begins) (unclosed id (acceptedOf begun es) unclosing) in
     (rw runs, rw runs)
 
 -- ---- after the end
 ended-number : (r : Run) (e : Event) → r .mark ≡ markSet → isLegal r ≡ true → number (r .cases) (r .mark) (e .kind) (e .id) ≡ refusedEnded
-unfolding number judged
+unfolding number eventJudged
 ended-number r e m h = rw (h, m)
 
 unlawful : (r : Run) (e : Event) → isLegal r ≡ false → number (r .cases) (r .mark) (e .kind) (e .id) ≡ refusedRun
-unfolding number judged
+unfolding number eventJudged
 unlawful r e h = rw h
 
 ended-refuses : (r : Run) (e : Event) → r .mark ≡ markSet → accepts r e ≡ false

@@ -5,7 +5,7 @@ use mathlib.Core.List.{List, [], _∷_, map}
 use lib.Dec.{eqb}
 use Rattle.tally.specs.declared.RbCase.{RbCase}
 use Rattle.tally.specs.Codes.{stateNotRun, stateRunning, statePassed, stateFailed, stateBroken, eventStart, eventPass, eventFail, eventCrash, eventEnd, markClear, accepted}
-use Rattle.tally.specs.Run.{legal, number, feed, restated}
+use Rattle.tally.specs.Run.{legalRun, number, feed, restated}
 
 pub record Run : Type 0 where
   pub cases : List RbCase
@@ -16,7 +16,7 @@ pub record Event : Type 0 where
   pub id : ℕ
 
 abbrev pub isLegal : Run → Bool
-isLegal r = legal (r .cases) (r .mark)
+isLegal r = legalRun (r .cases) (r .mark)
 
 abbrev pub accepts : Run → Event → Bool
 accepts r e = eqb (number (r .cases) (r .mark) (e .kind) (e .id)) accepted

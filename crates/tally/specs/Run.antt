@@ -64,8 +64,8 @@ unfoldable pub markFits : ℕ → Bool → Bool
 markFits m runs = eqb m markClear || (eqb m markSet && not runs)
 
 -- LegalReached (Theorems) says that these are the runs that events lead to
-unfoldable pub legal : List RbCase → ℕ → Bool
-legal cs m = legalCases cs && markFits m (someIf running cs)
+unfoldable pub legalRun : List RbCase → ℕ → Bool
+legalRun cs m = legalCases cs && markFits m (someIf running cs)
 
 -- ---- the number of an event. What it asks of the run: whether the id is listed, whether one runs, and the state of the case with that id
 -- 11 "unknown event or id"; "crash and end name no case"
@@ -81,8 +81,8 @@ unfoldable pub noneRunning : ℕ → Bool → ℕ → Bool
 noneRunning event runs state = (leb eventPass event && leb event eventCrash) && (not runs || (leb event eventFail && not (eqb state stateRunning)))
 
 -- "judged 15, 14, 11, 12, 13"
-unfoldable pub judged : Bool → ℕ → ℕ → Bool → Bool → ℕ → ℕ
-judged ok m event listed runs state =
+unfoldable pub eventJudged : Bool → ℕ → ℕ → Bool → Bool → ℕ → ℕ
+eventJudged ok m event listed runs state =
     cond (not ok) refusedRun (cond (eqb m markSet) refusedEnded (cond (unknown event listed) refusedUnknown (cond (notStartable event runs state) refusedStart (cond (noneRunning event runs state) refusedVerdict accepted))))
 
 -- the state of the case with this id; not run where it is not listed
@@ -91,7 +91,7 @@ stateOf id [] = stateNotRun
 stateOf id (c ∷ cs) = cond (hasId id c) (c .state) (stateOf id cs)
 
 unfoldable pub number : List RbCase → ℕ → ℕ → ℕ → ℕ
-number cs m event id = judged (legal cs m) m event (someIf (hasId id) cs) (someIf running cs) (stateOf id cs)
+number cs m event id = eventJudged (legalRun cs m) m event (someIf (hasId id) cs) (someIf running cs) (stateOf id cs)
 
 -- ---- what an accepted event does: a start is of the case with its id, every other event of the case that runs
 abbrev pub touches : ℕ → ℕ → RbCase → Bool
@@ -130,8 +130,8 @@ feed cs m event id = record {
 abbrev pub counted : List RbCase → RbReport
 counted cs = record { number = accepted; passed = countIf isPassed cs; failed = countIf isFailed cs; broken = countIf isBroken cs; «not_run» = countIf isNotRun cs }
 
-abbrev pub zeros : RbReport
-zeros = record { number = refusedRun; passed = 0; failed = 0; broken = 0; «not_run» = 0 }
+abbrev pub zeroReport : RbReport
+zeroReport = record { number = refusedRun; passed = 0; failed = 0; broken = 0; «not_run» = 0 }
 
 unfoldable pub report : List RbCase → ℕ → RbReport
-report cs m = cond (legal cs m) (counted cs) zeros
+report cs m = cond (legalRun cs m) (counted cs) zeroReport

@@ -9,7 +9,7 @@ use Rattle.tally.specs.declared.steps.Scan.{Scan}
 use Rattle.tally.specs.declared.judge.Plan.{Plan}
 use Rattle.tally.specs.declared.judge.RbReport.{RbReport}
 use Rattle.tally.specs.Codes.{mostCases, stateNotRun, stateRunning, statePassed, stateFailed, stateBroken, eventStart, accepted}
-use Rattle.tally.specs.Run.{judged, markFits, stateAfter, markAfter, restated, zeros}
+use Rattle.tally.specs.Run.{eventJudged, markFits, stateAfter, markAfter, restated, zeroReport}
 
 abbrev pub fresh : Scan
 fresh = record { good = true; last = 0; runs = false; runner = 0; found = false; place = 0; state = 0; passed = 0; failed = 0; broken = 0; «not_run» = 0 }
@@ -49,7 +49,7 @@ abbrev pub legalOf : Scan → ℕ → Bool
 legalOf s m = s .good && markFits m (s .runs)
 
 unfoldable pub numberOf : Scan → ℕ → ℕ → ℕ
-numberOf s m event = judged (legalOf s m) m event (s .found) (s .runs) (s .state)
+numberOf s m event = eventJudged (legalOf s m) m event (s .found) (s .runs) (s .state)
 
 -- which record gets which state, if one does: a start writes where the id stands, the others where the running case stands
 unfoldable pub planOf : Scan → ℕ → ℕ → Plan
@@ -64,7 +64,7 @@ unfoldable pub markOf : Scan → ℕ → ℕ → ℕ
 markOf s m event = cond (eqb (numberOf s m event) accepted) (markAfter event m) m
 
 unfoldable pub reportOf : Scan → ℕ → RbReport
-reportOf s m = cond (legalOf s m) (record { number = accepted; passed = s .passed; failed = s .failed; broken = s .broken; «not_run» = s .«not_run» }) zeros
+reportOf s m = cond (legalOf s m) (record { number = accepted; passed = s .passed; failed = s .failed; broken = s .broken; «not_run» = s .«not_run» }) zeroReport
 
 -- what a place past the end of the list reads as
 abbrev pub none : RbCase

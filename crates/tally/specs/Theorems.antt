@@ -19,8 +19,8 @@ reportOn r = report (r .cases) (r .mark)
 abbrev pub caseAt : Run → ℕ → RbCase
 caseAt r i = getD (r .cases) i none
 
-abbrev pub startOf : Run → ℕ → Event
-startOf r i = record { kind = eventStart; id = caseAt r i .id }
+abbrev pub startEvent : Run → ℕ → Event
+startEvent r i = record { kind = eventStart; id = caseAt r i .id }
 
 -- in how many of the four classes a case is
 abbrev pub classes : RbCase → ℕ
@@ -83,8 +83,8 @@ RunningIsBroken = (c : RbCase) → running c ≡ true → (isBroken c ≡ true) 
 -- From an accepted start on, and as long as no verdict of this case, no crash and no end is accepted, a case runs, and so counts as broken.
 abbrev pub BrokenUntilVerdict : Type 0
 BrokenUntilVerdict =
-    (r : Run) (es : List Event) (i : ℕ) → i < length (r .cases) → accepts r (startOf r i) ≡ true → someEvent (closes (caseAt r i .id)) (acceptedOf (fed r (startOf r i)) es) ≡ false
-    → (running (caseAt (after (fed r (startOf r i)) es) i) ≡ true) × (isBroken (caseAt (after (fed r (startOf r i)) es) i) ≡ true)
+    (r : Run) (es : List Event) (i : ℕ) → i < length (r .cases) → accepts r (startEvent r i) ≡ true → someEvent (closes (caseAt r i .id)) (acceptedOf (fed r (startEvent r i)) es) ≡ false
+    → (running (caseAt (after (fed r (startEvent r i)) es) i) ≡ true) × (isBroken (caseAt (after (fed r (startEvent r i)) es) i) ≡ true)
 
 -- ---- what stays
 -- A refused event: "nothing changed".

@@ -3,7 +3,7 @@ ghost use mathlib.Core.Path.{_≡_};
 ghost use mathlib.Core.Bool.{cond};
 ghost use lib.Dec.{eqb};
 ghost use Rattle.tally.specs.Codes.{eventStart, accepted};
-ghost use Rattle.tally.specs.Run.{unknown, notStartable, noneRunning, judged, markFits, stateAfter, markAfter};
+ghost use Rattle.tally.specs.Run.{unknown, notStartable, noneRunning, eventJudged, markFits, stateAfter, markAfter};
 ghost use Rattle.tally.specs.Scan.{numberOf, planOf, markOf, reportOf};
 use super::codes::ACCEPTED;
 use super::codes::EVENT_CRASH;
@@ -72,7 +72,7 @@ fn none_running(event: u32, runs: bool, state: u32) -> bool
 
 // The number, judged 15, 14, 11, 12, 13.
 fn judge_event(legal: bool, mark: u8, event: u32, listed: bool, runs: bool, state: u32) -> u32
-    ensures { λ r. ⌜ r ≡ judged legal mark event listed runs state ⌝ }
+    ensures { λ r. ⌜ r ≡ eventJudged legal mark event listed runs state ⌝ }
 {
     if !legal {
         return REFUSED_RUN;

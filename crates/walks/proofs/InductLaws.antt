@@ -11,7 +11,7 @@ use Rattle.names.proofs.OrderLaws.{irrefl, trans}
 use Rattle.message.specs.Request.{bindingAt}
 use Rattle.message.specs.declared.request.BindingRead.{BindingRead}
 use Rattle.message.proofs.FormLaws.{clash}
-use Rattle.walks.specs.Walk.{Item, item, nameIn, Walk, faulty, whole, before, itemThen, notAscending, walkFrom}
+use Rattle.walks.specs.Walk.{Item, item, nameIn, Walk, faulty, whole, itemBefore, itemThen, notAscending, walkFrom}
 use Rattle.walks.specs.Merge.{onlyReference, onlyDevice, differing, Merged, merged, listed, merge, contrastOf}
 use Rattle.walks.specs.Theorems.{In, AllAbove, Ascending, names}
 use Rattle.names.specs.declared.order.Relation.{Relation}
@@ -73,7 +73,7 @@ Up last xs = AllAbove last (names xs) × Ascending (names xs)
 nothing-up : (last : List ℕ) (xs : List Item) → whole [] ≡ whole xs → Up last xs
 nothing-up last xs e = let z : xs ≡ [] = cc in rw z (tt, tt)
 
-item-up : (last : List ℕ) (x : Item) (w : Walk) (xs : List Item) → ((ys : List Item) → w ≡ whole ys → Up (x .name) ys) → below last (x .name) ≡ true → before x w ≡ whole xs → Up last xs
+item-up : (last : List ℕ) (x : Item) (w : Walk) (xs : List Item) → ((ys : List Item) → w ≡ whole ys → Up (x .name) ys) → below last (x .name) ≡ true → itemBefore x w ≡ whole xs → Up last xs
 item-up last x (faulty r) xs f h e = clash (cc)
 item-up last x (whole ys) xs f h e =
     let z : xs ≡ x ∷ ys = cc in
@@ -85,7 +85,7 @@ step-up : (s : List ℕ) (last : List ℕ) (at : ℕ) (k : BindingRead) (go : Li
 step-up s last at (BindingRead.Refused r) go xs f e = clash (cc)
 step-up s last at (BindingRead.Bound b next) go xs f e = test (below last (nameIn s b)) refl e
   where
-    test : (t : Bool) → below last (nameIn s b) ≡ t → cond t (before (item s at b) (go (nameIn s b) next)) (faulty notAscending) ≡ whole xs → Up last xs
+    test : (t : Bool) → below last (nameIn s b) ≡ t → cond t (itemBefore (item s at b) (go (nameIn s b) next)) (faulty notAscending) ≡ whole xs → Up last xs
     test true h q = item-up last (item s at b) (go (nameIn s b) next) xs (f (nameIn s b) next) h q
     test false h q = clash (cc)
 

@@ -15,8 +15,8 @@ use Rattle.message.specs.declared.request.Binding.{Binding}
 use Rattle.message.specs.declared.request.BindingRead.{BindingRead}
 use Rattle.message.proofs.BindingLaws.{Placed, stands}
 use Rattle.message.proofs.FormLaws.{clash}
-use Rattle.walks.specs.declared.walk.Judged.{Judged}
-use Rattle.walks.specs.Walk.{Item, item, nameIn, Walk, faulty, whole, before, itemThen, notAscending, walkFrom, walkOf, judged}
+use Rattle.walks.specs.declared.walk.WalkJudged.{WalkJudged}
+use Rattle.walks.specs.Walk.{Item, item, nameIn, Walk, faulty, whole, itemBefore, itemThen, notAscending, walkFrom, walkOf, walkJudged}
 use Rattle.walks.specs.Turn.{items}
 use Rattle.walks.specs.Compare.{startOf, outlasts}
 use Rattle.walks.proofs.WalkLaws.{from-end, from-step}
@@ -29,10 +29,10 @@ pub record Left (s : List ℕ) (at : ℕ) (xs : List Item) : Type 0 where
   pub rest : walkFrom s left last at ≡ whole xs
   pub inside : at ≤ length s
 
-pub left-start : (s : List ℕ) → judged (walkOf s) ≡ Judged.Whole → Left s 0 (items (walkOf s))
+pub left-start : (s : List ℕ) → walkJudged (walkOf s) ≡ WalkJudged.Whole → Left s 0 (items (walkOf s))
 left-start s = go (walkOf s) refl
   where
-    go : (w : Walk) → walkOf s ≡ w → judged w ≡ Judged.Whole → Left s 0 (items w)
+    go : (w : Walk) → walkOf s ≡ w → walkJudged w ≡ WalkJudged.Whole → Left s 0 (items w)
     go (faulty r) p e = clash (cc)
     go (whole xs) p e = unfold walkOf in record { last = []; left = length s; enough = omega arith; rest = p; inside = omega arith }
 
@@ -54,7 +54,7 @@ pub record Next (s : List ℕ) (at : ℕ) (xs : List Item) : Type 0 where
 
 module _ {s : List ℕ} {at : ℕ} {xs : List Item} (w : Left s at xs) (h : at < length s) where
   binding-left : (b : Binding) (next : ℕ) → bindingAt 3 s at ≡ BindingRead.Bound b next → (r : Walk) → walkFrom s (w .left - 1) (nameIn s b) next ≡ r
-      → before (item s at b) r ≡ whole xs → Next s at xs
+      → itemBefore (item s at b) r ≡ whole xs → Next s at xs
   binding-left b next e (faulty r) p q = clash (cc)
   binding-left b next e (whole ys) p q =
       let v : Placed 3 s at b next = stands {k = bindingAt 3 s at} refl e in
@@ -72,7 +72,7 @@ module _ {s : List ℕ} {at : ℕ} {xs : List Item} (w : Left s at xs) (h : at <
   step-left (BindingRead.Refused r) e p = clash (cc)
   step-left (BindingRead.Bound b next) e p = go (below (w .last) (nameIn s b)) p
     where
-      go : (t : Bool) → cond t (before (item s at b) (walkFrom s (w .left - 1) (nameIn s b) next)) (faulty notAscending) ≡ whole xs → Next s at xs
+      go : (t : Bool) → cond t (itemBefore (item s at b) (walkFrom s (w .left - 1) (nameIn s b) next)) (faulty notAscending) ≡ whole xs → Next s at xs
       go true q = binding-left b next e (walkFrom s (w .left - 1) (nameIn s b) next) refl q
       go false q = clash (cc)
 

@@ -25,10 +25,10 @@ use Rattle.message.specs.Request.{bindingAt}
 use Rattle.message.specs.declared.request.BindingRead.{BindingRead}
 use Rattle.message.proofs.BindingLaws.{Placed, stands}
 use Rattle.message.proofs.FormLaws.{clash}
-use Rattle.walks.specs.Walk.{Item, item, nameIn, Walk, faulty, whole, before, itemThen, notAscending, walkFrom, walkOf}
+use Rattle.walks.specs.Walk.{Item, item, nameIn, Walk, faulty, whole, itemBefore, itemThen, notAscending, walkFrom, walkOf}
 use Rattle.walks.specs.Contrast.{isPorts, portsPlace, shortString, portsColumn, portSets}
 use Rattle.walks.specs.Merge.{Entry, onlyReference, onlyDevice, differing, Merged, merged, listed, listedIf, merge, contrastOf, entryOctets, listOctets, kindOf, total}
-use Rattle.walks.specs.Compare.{Outcome, refusedWith, startOf, outlasts, completed, walkThen, compared, listedIn, tailed}
+use Rattle.walks.specs.Compare.{CompareOutcome, refusedWith, startOf, outlasts, completed, walkThen, compared, listedIn, tailed}
 use Rattle.walks.specs.Theorems.{In, AllAbove, Ascending, names, entryName, Unnamed, WalksAscend, ReadWhole, FirstAscends, EntriesAscend, TotalsAdd, KindsWritten, OneTail, TailsEnd, OnlyInReference, OnlyInDevice, swapEntry, Exchanged, Swaps, CallExchanged, RefusalKeeps, DifferingInBoth, EqualWalks, UnderPortsColumn, PortsDiffer, OthersDiffer, MissingOctets}
 use Rattle.walks.proofs.WalkLaws.{from-end, from-step}
 use Rattle.names.proofs.RelationLaws.{related-below, related-same, related-above}
@@ -44,7 +44,7 @@ step-more : (s last : List ℕ) (at : ℕ) (f g : List ℕ → ℕ → Walk) (k 
     → itemThen s last at k f ≡ itemThen s last at k g
 step-more s last at f g (BindingRead.Refused r) e h = refl
 step-more s last at f g (BindingRead.Bound b next) e h =
-    ap (λ (w : Walk). cond (below last (nameIn s b)) (before (item s at b) w) (faulty notAscending)) (h (nameIn s b) next (stands {k = bindingAt 3 s at} refl e .goes))
+    ap (λ (w : Walk). cond (below last (nameIn s b)) (itemBefore (item s at b) w) (faulty notAscending)) (h (nameIn s b) next (stands {k = bindingAt 3 s at} refl e .goes))
 
 pub read-whole : ReadWhole
 read-whole s last at zero more h k = from-end s zero last at (omega arith) ∙ sym (from-end s more last at (omega arith))
@@ -306,7 +306,7 @@ swaps-listed s t list m m′ e o =
     let q : m′ .theirs ≡ m .ours = ap (λ (n : Merged). n .theirs) e in
     rw (l, p, q) (go (leb (20 * length (m .entries)) (length list)) (tails-swap s t list m m′ e (m .ours) (m .theirs) o))
   where
-    go : (b : Bool) {u v : Outcome} → Swaps u v → Swaps (cond b u (refusedWith 25 1 0 list)) (cond b v (refusedWith 25 1 0 list))
+    go : (b : Bool) {u v : CompareOutcome} → Swaps u v → Swaps (cond b u (refusedWith 25 1 0 list)) (cond b v (refusedWith 25 1 0 list))
     go true w = w
     go false w = record { number = refl; tailLen = refl; referenceOnly = refl; switchOnly = refl; differing = refl }
 
@@ -315,7 +315,7 @@ unfolding compared
 call-exchanged s t list xs ys e f = rw (e, f) (swaps-listed s t list (merge xs ys) (merge ys xs) (exchanged xs ys) (one-tail xs ys))
 
 -- a refusal writes nothing
-abbrev Keeps : List ℕ → Outcome → Type 0
+abbrev Keeps : List ℕ → CompareOutcome → Type 0
 Keeps list o = (o .number ≡ 0) ⊎ (o .list ≡ list)
 
 listed-keeps : (s t list : List ℕ) (m : Merged) → Keeps list (listedIn s t list m)

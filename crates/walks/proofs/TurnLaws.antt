@@ -12,13 +12,13 @@ use lib.Dec.{eqb, ltb}
 use Rattle.octets.proofs.BoolLaws.{both}
 use Rattle.message.proofs.FormLaws.{clash}
 use Rattle.names.specs.Order.{relation}
-use Rattle.walks.specs.Walk.{Item, item, walkOf, judged}
+use Rattle.walks.specs.Walk.{Item, item, walkOf, walkJudged}
 use Rattle.walks.specs.Merge.{Entry, onlyReference, onlyDevice, differing, merged, merge, contrastOf, entryOctets, listOctets, total}
 use Rattle.walks.specs.Turn.{turned, turnOf, turnAt, turnOctets, items}
 use Rattle.names.specs.declared.order.Relation.{Relation}
 use Rattle.names.specs.declared.order.Relation.the-variants.{Lower, Same, Higher}
 use Rattle.walks.specs.declared.turn.Turn.{Turn}
-use Rattle.walks.specs.declared.walk.Judged.{Judged}
+use Rattle.walks.specs.declared.walk.WalkJudged.{WalkJudged}
 use Rattle.walks.proofs.LeftLaws.{Left, left-start, left-end, Next, left-next}
 use Rattle.walks.proofs.MergeLaws.{appended, appended-twice, merge-none, merge-alone, merge-below, merge-same, merge-above, contrast-kinds, list-one}
 
@@ -161,7 +161,7 @@ pub record Along (s t : List ℕ) (i j : ℕ) (done : List Entry) : Type 0 where
   pub theirs : Left t j ys
   pub all : merge (items (walkOf s)) (items (walkOf t)) ≡ appended done (merge xs ys)
 
-pub along-start : (s t : List ℕ) → judged (walkOf s) ≡ Judged.Whole → judged (walkOf t) ≡ Judged.Whole → Along s t 0 0 []
+pub along-start : (s t : List ℕ) → walkJudged (walkOf s) ≡ WalkJudged.Whole → walkJudged (walkOf t) ≡ WalkJudged.Whole → Along s t 0 0 []
 along-start s t e f = record { xs = items (walkOf s); ys = items (walkOf t); ours = left-start s e; theirs = left-start t f; all = refl }
 
 both-lt : (i n j m : ℕ) → (ltb i n && ltb j m) ≡ true → (i < n) × (j < m)

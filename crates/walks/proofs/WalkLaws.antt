@@ -14,8 +14,8 @@ use Rattle.message.specs.declared.form.Refusal.{Refusal}
 use Rattle.message.specs.declared.request.Binding.{Binding}
 use Rattle.message.specs.declared.request.BindingRead.{BindingRead}
 use Rattle.message.proofs.BindingLaws.{BindingTells, stands}
-use Rattle.walks.specs.declared.walk.Judged.{Judged}
-use Rattle.walks.specs.Walk.{Item, item, nameIn, Walk, faulty, whole, before, itemThen, notAscending, walkFrom, walkOf, judged}
+use Rattle.walks.specs.declared.walk.WalkJudged.{WalkJudged}
+use Rattle.walks.specs.Walk.{Item, item, nameIn, Walk, faulty, whole, itemBefore, itemThen, notAscending, walkFrom, walkOf, walkJudged}
 
 module _ (s : List ℕ) where
   pub from-end : (left : ℕ) (last : List ℕ) (at : ℕ) → length s ≤ at → walkFrom s left last at ≡ whole []
@@ -31,36 +31,36 @@ module _ (s : List ℕ) where
 pub record Sofar (s last : List ℕ) (at : ℕ) : Type 0 where
   pub left : ℕ
   pub enough : length s ≤ at + left
-  pub rest : judged (walkFrom s left last at) ≡ judged (walkOf s)
+  pub rest : walkJudged (walkFrom s left last at) ≡ walkJudged (walkOf s)
 
 pub sofar-none : (s : List ℕ) → Sofar s (subids (part s 0 0)) 0
 unfolding walkOf subids
 sofar-none s = record { left = length s; enough = omega arith; rest = refl }
 
-judged-before : (x : Item) (w : Walk) → judged (before x w) ≡ judged w
+judged-before : (x : Item) (w : Walk) → walkJudged (itemBefore x w) ≡ walkJudged w
 judged-before x (faulty r) = refl
 judged-before x (whole xs) = refl
 
 module _ {s last : List ℕ} {at : ℕ} (w : Sofar s last at) where
-  pub sofar-all : length s ≤ at → Judged.Whole ≡ judged (walkOf s)
-  sofar-all h = sym (ap judged (from-end s (w .left) last at h)) ∙ w .rest
+  pub sofar-all : length s ≤ at → WalkJudged.Whole ≡ walkJudged (walkOf s)
+  sofar-all h = sym (ap walkJudged (from-end s (w .left) last at h)) ∙ w .rest
 
   module _ (h : at < length s) {k : BindingRead} (e : k ≡ bindingAt 3 s at) where
-    turn : judged (itemThen s last at k (walkFrom s (w .left - 1))) ≡ judged (walkOf s)
+    turn : walkJudged (itemThen s last at k (walkFrom s (w .left - 1))) ≡ walkJudged (walkOf s)
     turn =
         let l : w .left ≡ suc (w .left - 1) = omega (arith, w .enough) in
         let p : walkFrom s (w .left) last at ≡ itemThen s last at k (walkFrom s (w .left - 1)) = rw (e, ← from-step s (w .left - 1) last at h, ← l) in
-        sym (ap judged p) ∙ w .rest
+        sym (ap walkJudged p) ∙ w .rest
 
-    pub sofar-refused : {r : Refusal} → k ≡ BindingRead.Refused r → Judged.Refused r ≡ judged (walkOf s)
+    pub sofar-refused : {r : Refusal} → k ≡ BindingRead.Refused r → WalkJudged.Refused r ≡ walkJudged (walkOf s)
     sofar-refused f = rw f at turn
 
-    pub sofar-falls : {b : Binding} {next : ℕ} → k ≡ BindingRead.Bound b next → below last (nameIn s b) ≡ false → Judged.Refused notAscending ≡ judged (walkOf s)
+    pub sofar-falls : {b : Binding} {next : ℕ} → k ≡ BindingRead.Bound b next → below last (nameIn s b) ≡ false → WalkJudged.Refused notAscending ≡ walkJudged (walkOf s)
     sofar-falls f g = rw (f, g) at turn
 
     pub sofar-more : {b : Binding} {next : ℕ} → k ≡ BindingRead.Bound b next → below last (nameIn s b) ≡ true → Sofar s (nameIn s b) next
     sofar-more {b} {next} f g =
-        let t : judged (before (item s at b) (walkFrom s (w .left - 1) (nameIn s b) next)) ≡ judged (walkOf s) = rw (f, g) at turn in
+        let t : walkJudged (itemBefore (item s at b) (walkFrom s (w .left - 1) (nameIn s b) next)) ≡ walkJudged (walkOf s) = rw (f, g) at turn in
         record {
           left = w .left - 1;
           enough = omega (arith, w .enough, stands e f .goes);

@@ -14,7 +14,7 @@ use Rattle.walks.specs.declared.compare.Comparison.{Comparison}
 
 -- the call's number; the walk whose tail it is or that is at fault, 1 reference, 2 device; the offset of a refusal 4 to 6; where in that walk the tail
 -- starts and how long it is; the totals per kind; and the list afterwards
-pub record Outcome : Type 0 where
+pub record CompareOutcome : Type 0 where
   pub number : ℕ
   pub side : ℕ
   pub offset : ℕ
@@ -26,7 +26,7 @@ pub record Outcome : Type 0 where
   pub list : List ℕ
 
 -- "Refusals, each writing nothing and handing back an empty tail of the walk at fault"
-abbrev pub refusedWith : (number side offset : ℕ) → List ℕ → Outcome
+abbrev pub refusedWith : (number side offset : ℕ) → List ℕ → CompareOutcome
 refusedWith number side offset list =
     record {
       number = number;
@@ -51,7 +51,7 @@ outlasts [] = false
 outlasts (y ∷ ys) = true
 
 -- the totals and the list of a comparison, with the tail's walk, its start and its length
-abbrev pub completed : (side at len : ℕ) → List ℕ → Merged → Outcome
+abbrev pub completed : (side at len : ℕ) → List ℕ → Merged → CompareOutcome
 completed side at len list m =
     record {
       number = 0;
@@ -65,14 +65,14 @@ completed side at len list m =
       list = patch list 0 (listOctets (m .entries));
     }
 
-unfoldable pub tailed : (reference device list : List ℕ) → Merged → Outcome
+unfoldable pub tailed : (reference device list : List ℕ) → Merged → CompareOutcome
 tailed reference device list m =
     cond (outlasts (m .theirs))
     (completed 2 (startOf device (m .theirs)) (length device - startOf device (m .theirs)) list m)
     (completed 1 (startOf reference (m .ours)) (length reference - startOf reference (m .ours)) list m)
 
 -- "25 the list is longer than its room": an entry has 20 octets
-unfoldable pub listedIn : (reference device list : List ℕ) → Merged → Outcome
+unfoldable pub listedIn : (reference device list : List ℕ) → Merged → CompareOutcome
 listedIn reference device list m =
     cond (leb (20 * length (m .entries)) (length list)) (tailed reference device list m) (refusedWith 25 1 0 list)
 
@@ -81,7 +81,7 @@ walkThen (faulty r) stop go = stop r
 walkThen (whole xs) stop go = go xs
 
 -- "the reference walk judged first, 25 last"
-unfoldable pub compared : (reference device list : List ℕ) → Outcome
+unfoldable pub compared : (reference device list : List ℕ) → CompareOutcome
 compared reference device list =
     walkThen (walkOf reference) (λ r. refusedWith (r .number) 1 (r .at) list)
     (λ xs. walkThen (walkOf device) (λ r. refusedWith (r .number) 2 (r .at) list)
@@ -99,7 +99,7 @@ measured reference device m =
     }
 
 -- a result of the code and the list afterwards as an outcome; the tail are the octets from `from` to `to` of its side's walk
-abbrev pub outcomeOf : Comparison → List ℕ → Outcome
+abbrev pub outcomeOf : Comparison → List ℕ → CompareOutcome
 outcomeOf c list =
     record {
       number = c .number;

@@ -5,7 +5,7 @@ ghost use lib.ListN.{length};
 ghost use Rattle.octets.specs.Parts.{part};
 ghost use Rattle.names.specs.SubIds.{subids};
 ghost use Rattle.names.specs.Order.{below};
-ghost use Rattle.walks.specs.Walk.{walkOf, judged};
+ghost use Rattle.walks.specs.Walk.{walkOf, walkJudged};
 use message::form::Refusal;
 use message::request::BindingRead;
 use message::request::binding_at;
@@ -18,7 +18,7 @@ pub const NOT_ASCENDING: u8 = 24;
 pub const SET: u8 = 3;
 
 // Whether a walk can be read, and else its first refusal.
-pub enum Judged {
+pub enum WalkJudged {
     Refused(Refusal),
     Whole,
 }
@@ -37,8 +37,8 @@ fn ascends(s: &[u8], a: usize, n: usize, b: usize, m: usize) -> bool
     }
 }
 
-pub fn judge(s: &[u8]) -> Judged
-    ensures { λ r. ⌜ r ≡ judged (walkOf (now (s .entry))) ⌝ }
+pub fn judge(s: &[u8]) -> WalkJudged
+    ensures { λ r. ⌜ r ≡ walkJudged (walkOf (now (s .entry))) ⌝ }
 {
     let mut at: usize = 0;
     // the name before: at first the empty one
@@ -47,11 +47,11 @@ pub fn judge(s: &[u8]) -> Judged
     while at < s.len() {
         match binding_at(SET, s, at) {
             BindingRead::Refused(r) => {
-                return Judged::Refused(r);
+                return WalkJudged::Refused(r);
             }
             BindingRead::Bound { binding, next } => {
                 if !ascends(s, name, size, binding.name, binding.size) {
-                    return Judged::Refused(Refusal {
+                    return WalkJudged::Refused(Refusal {
                         number: NOT_ASCENDING,
                         at: 0,
                     });
@@ -62,5 +62,5 @@ pub fn judge(s: &[u8]) -> Judged
             }
         }
     }
-    Judged::Whole
+    WalkJudged::Whole
 }

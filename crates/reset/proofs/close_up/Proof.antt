@@ -12,7 +12,7 @@ use Rattle.block.proofs.ImageLaws.{length-image}
 use Rattle.block.specs.Stored.{Storable}
 use Rattle.block.proofs.RoundLaws.{valid-storable, legal-valid}
 use Rattle.reset.specs.Reset.{stay}
-use Rattle.reset.specs.Closing.{closing, Held, moved, nextPlace}
+use Rattle.reset.specs.Closing.{closing, IsImage, moved, nextFree}
 use Rattle.reset.proofs.ResetLaws.{turned, turned-first, none-written, take-all, turned-storable, stored-held, held-sized, written-short, length-closing, turn}
 use Rattle.reset.proofs.close_up.Statement.{statement}
 use Rattle.reset.proofs.close_up.Tie as tie
@@ -38,18 +38,18 @@ module _ (b x : List ℕ) (i : ℕ) (stored : Storable (contentOf b)) (few : i <
   reads : contentOf x ≡ turned (contentOf b) i
   reads = stored-held (turned (contentOf b) i) (turned-storable (contentOf b) i stored (omega arith)) e .0
 
-  holds : Held x
+  holds : IsImage x
   holds = stored-held (turned (contentOf b) i) (turned-storable (contentOf b) i stored (omega arith)) e .1
 
   inside : i < length (contentOf x .statics)
   inside = omega (arith, ap (λ (c : Content). length (c .statics)) reads, length-closing (contentOf b .statics) i (omega arith))
 
   -- and behind it
-  after : {j r : ℕ} {y : List ℕ} → j ≡ length (stay (take i (contentOf b .statics))) → r ≡ nextPlace (contentOf x) j i → y ≡ image (moved (contentOf x) j i)
+  after : {j r : ℕ} {y : List ℕ} → j ≡ length (stay (take i (contentOf b .statics))) → r ≡ nextFree (contentOf x) j i → y ≡ image (moved (contentOf x) j i)
       → (r ≡ length (stay (take (i + 1) (contentOf b .statics)))) × (y ≡ image (turned (contentOf b) (i + 1)))
   after {j} {r} {y} q p s =
       let t = turn (contentOf b) i few in (
-        p ∙ (λ z. nextPlace (reads z) (q z) i) ∙ t .1,
+        p ∙ (λ z. nextFree (reads z) (q z) i) ∙ t .1,
         s ∙ (λ z. image (moved (reads z) (q z) i)) ∙ ap image (t .0),
       )
 

@@ -7,7 +7,7 @@ use Rattle.block.specs.Content.{Content}
 use Rattle.block.specs.Image.{image, contentOf}
 use Rattle.block.specs.Stored.{Storable}
 use Rattle.block.proofs.RoundLaws.{valid-storable, legal-valid}
-use Rattle.reset.specs.Closing.{Held}
+use Rattle.reset.specs.Closing.{IsImage}
 use Rattle.reset.proofs.ResetLaws.{stored-held, held-sized, closed, closed-storable, stay-few, closed-cut}
 use borrow.Author.Needs.{needs}
 use Rattle.reset.proofs.reset.Statement.{statement}

@@ -186,10 +186,13 @@ fn one_history(library: Library, seed: u64, tally: &mut Tally) -> Result<(), Box
     };
     let wanted = [30, 100, 400][random.below(3)];
     let fills = !filled && random.chance(20);
+    // A bridge of one port has no pairs to fill a table with, so that this may be nothing.
+    let mut steps = if fills { scripts::fill(&mut random, &history.start) } else { Vec::new() };
     while history.steps.len() < wanted {
-        let filling = fills && history.steps.is_empty();
-        let steps = if filling { scripts::fill(&mut random, &history.start) } else { player.next_steps(&mut random) };
-        for step in steps {
+        if steps.is_empty() {
+            steps = player.next_steps(&mut random);
+        }
+        for step in std::mem::take(&mut steps) {
             let played = player.play(&step);
             history.steps.push(step);
             if let Err(difference) = played {

@@ -1,9 +1,9 @@
--- `console::header::read_header` meets its contract. The invariant: the run of the whole chunk is the run of the octets left, from the place that is reached. Assumes nothing.
+-- `console::header::read_header` meets its contract. The invariant: the run of the whole chunk is the run of the octets left, from the position that is reached. Assumes nothing.
 use mathlib.Core.Path.{_≡_}
 use Prim.Native.Nat.{_-_, _≤_, _<_}
 use native.Mathlib.Omega.{arith}
 use lib.ListN.{length, drop}
-use Rattle.console.specs.Places.{moved}
+use Rattle.console.specs.Positions.{moved}
 use Rattle.console.specs.Frames.{inside, heading, run}
 use Rattle.console.proofs.HeaderLaws.{moved-none, head-wrong, head-whole, head-inside, head-cut}
 use Rattle.console.proofs.header.read_header.Statement.{statement}
@@ -20,11 +20,11 @@ abbrev μ-loop : tie.MeasureT-loop
 loop-holds : tie.Need-loop-holds Inv-loop μ-loop
 loop-holds c = (omega arith, omega arith, omega arith, omega arith, moved-none _)
 
-shared-slice-read-next-place : tie.Need-shared-slice-read-next-place Inv-loop μ-loop
-shared-slice-read-next-place c = omega arith
+shared-slice-read-next-position : tie.Need-shared-slice-read-next-position Inv-loop μ-loop
+shared-slice-read-next-position c = omega arith
 
-next-place-requires : tie.Need-next-place-requires Inv-loop μ-loop
-next-place-requires c κs = (omega arith, omega arith)
+next-position-requires : tie.Need-next-position-requires Inv-loop μ-loop
+next-position-requires c κs = (omega arith, omega arith)
 
 add-i : tie.Need-add-i Inv-loop μ-loop
 add-i c = omega arith
@@ -32,13 +32,13 @@ add-i c = omega arith
 returns : tie.Need-returns Inv-loop μ-loop
 returns c =
     let l = c .before .before .before .before .before .loop in
-    head-wrong _ _ _ (l .i) (l .c) (l .z) (l .inv .4) (omega arith) (omega arith) (c .before .before .next-place .ensures) (c .if1 .taken)
+    head-wrong _ _ _ (l .i) (l .c) (l .z) (l .inv .4) (omega arith) (omega arith) (c .before .before .next-position .ensures) (c .if1 .taken)
 
 returns-2 : tie.Need-returns-2 Inv-loop μ-loop
 returns-2 c =
     let d = c .before .before .before in
     let l = d .before .before .before .before .loop in
-    head-whole _ _ _ (l .i) (l .c) (l .z) (l .inv .4) (omega arith) (omega arith) (d .before .next-place .ensures) (c .before .before .if1 .left) (c .if2 .taken)
+    head-whole _ _ _ (l .i) (l .c) (l .z) (l .inv .4) (omega arith) (omega arith) (d .before .next-position .ensures) (c .before .before .if1 .left) (c .if2 .taken)
 
 loop-less : tie.Need-loop-less Inv-loop μ-loop
 loop-less c = omega arith
@@ -47,7 +47,7 @@ loop-again : tie.Need-loop-again Inv-loop μ-loop
 loop-again c =
     let d = c .before .before .before in
     let l = d .before .before .before .before .loop in
-    let n = d .before .next-place .ensures in
+    let n = d .before .next-position .ensures in
     let f = n .further (c .before .before .if1 .left) in (
       omega arith,
       omega (arith, f, c .if2 .left),
@@ -66,8 +66,8 @@ read-header-spec =
     Inv-loop
     μ-loop
     loop-holds
-    shared-slice-read-next-place
-    next-place-requires
+    shared-slice-read-next-position
+    next-position-requires
     add-i
     returns
     returns-2

@@ -1,4 +1,4 @@
--- What the code's own numbers mean: a place in a header, a state's numbers, and what an inner function finds. Assumes nothing.
+-- What the code's own numbers mean: a position in a header, a state's numbers, and what an inner function finds. Assumes nothing.
 use mathlib.Core.Path.{_≡_}
 use mathlib.Core.Bool.{Bool, cond, _&&_}
 use mathlib.Core.List.{List, [], _∷_, _++_}
@@ -10,7 +10,7 @@ use Rattle.octets.specs.Parts.{zeros}
 use Rattle.message.specs.Answer.{mostOctets}
 use Rattle.console.specs.Frames.{headerOctets, heading, Step, inside, wrong, arrived, step, run}
 use Rattle.console.specs.State.{going, ended, sound, stateSize, atContents, headerPhase, contentsPhase}
-use Rattle.console.specs.declared.header.Place.{Place}
+use Rattle.console.specs.declared.header.Position.{Position}
 use Rattle.console.specs.declared.header.Head.{Head}
 
 -- a number, or so many octets of the header and the message length so far; with five the header is whole
@@ -21,12 +21,12 @@ meant number count size = cond (eqb number 0) (cond (eqb count headerOctets) (ar
 abbrev pub moved : ℕ → ℕ × Step → ℕ × Step
 moved n r = (r .0 + n, r .1)
 
--- a place in a header, before its last octet
+-- a position in a header, before its last octet
 abbrev pub InHeader : (count size : ℕ) → Type 0
 InHeader count size = (count < headerOctets) × (size < 65536)
 
--- what an octet makes of a place in the header
-pub record NextPlace (count size octet : ℕ) (r : Place) : Type 0 where
+-- what an octet makes of a position in the header
+pub record NextPosition (count size octet : ℕ) (r : Position) : Type 0 where
   pub means : step (heading count size) octet ≡ meant (r .number) (r .count) (r .size)
   pub further : r .number ≡ 0 → r .count ≡ count + 1
   pub small : r .size < 65536
