@@ -4,7 +4,7 @@ ghost use Rattle.reset.specs.Reset.{resetNumber, resetBlock};
 use super::BLOCK_NOT_LEGAL;
 use super::RbResult;
 use super::numbered;
-use block::legal::is_legal;
+use legality::is_legal;
 use reset::reset;
 
 // Removes the static rows that do not outlast a reset.

@@ -9,7 +9,6 @@ ghost use Rattle.block.specs.Image.{image, contentOf};
 ghost use Rattle.block.specs.Valid.{legal};
 ghost use Rattle.reset.specs.Reset.{stay, afterReset};
 ghost use Rattle.reset.specs.Closing.{closing, IsImage, moved, nextFree};
-use block::changes::change_static;
 use block::layout::AT_STATIC_COUNT;
 use block::layout::AT_STATICS;
 use block::layout::STATIC_WIDTH;
@@ -17,6 +16,7 @@ use block::reads::static_entry;
 use block::tables::Table;
 use block::tables::row_count;
 use block::tables::row_key;
+use changes::change_static;
 use octets::numbers::put_be4;
 use octets::parts::clear;
 

@@ -1,0 +1,3 @@
+mod LegalLaws
+mod SmallLaws
+mod AscendLaws
