@@ -18,12 +18,12 @@ use Rattle.message.specs.Answer.{messageOctets, mostOctets}
 use Rattle.message.specs.Theorems.{Carried, AllCarried}
 use Rattle.message.proofs.FormLaws.{cond-cases}
 use Rattle.message.proofs.ReadBack.{any-reads-back}
-use Rattle.datagram.specs.Ber.{fewest, five, four, integer32, unsigned32, numberJudged, subIds, contentJudged, contentOctets}
+use Rattle.ber.specs.Ber.{fewest, five, four, integer32, unsigned32, numberJudged, subIds, contentJudged, contentOctets}
 use Rattle.datagram.specs.Reading.{takesOf, Within, boundAt, DatagramRead, refused, message, readDatagram, Given, givenBy, fromDatagram}
 use Rattle.datagram.specs.Theorems.{HandsOverReadable}
-use Rattle.datagram.proofs.NameLaws.{two-sub-ids}
+use Rattle.ber.proofs.NameLaws.{two-sub-ids}
 use Rattle.datagram.proofs.PlaceLaws.{length-five, name-below, name-back}
-use Rattle.datagram.proofs.BackLaws.{pick}
+use Rattle.ber.proofs.ContentLaws.{pick}
 use Rattle.datagram.proofs.ReadLaws.{AllWithin, DatagramTells, datagram-tells}
 
 -- ## A content that was read has a length that its tag allows

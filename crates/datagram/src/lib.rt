@@ -1,7 +1,3 @@
 // SNMPv2c datagrams: a community-based message to our message form and back. `placing` reads and hands over, `sending` writes.
-pub mod ber;
 pub mod placing;
 pub mod reading;
-pub mod response;
-pub mod sending;
-pub mod writing;

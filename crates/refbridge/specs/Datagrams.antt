@@ -7,7 +7,7 @@ use lib.ListN.{length, getD, take}
 use Rattle.block.specs.Valid.{legal}
 use Rattle.message.specs.Answer.{mostOctets}
 use Rattle.datagram.specs.Reading.{fromDatagram}
-use Rattle.datagram.specs.Writing.{Sent}
+use Rattle.sending.specs.Writing.{Sent}
 use Rattle.answer.specs.Respond.{answerOf}
 use Rattle.refbridge.specs.declared.RbResult.{RbResult}
 

@@ -2,12 +2,12 @@
 ghost use mathlib.Core.Path.{_≡_};
 ghost use mathlib.Core.Bool.{true, false};
 ghost use Rattle.datagram.specs.Reading.{given, fromDatagram};
-ghost use Rattle.datagram.specs.Writing.{toDatagram};
+ghost use Rattle.sending.specs.Writing.{toDatagram};
 ghost use Rattle.refbridge.specs.Datagrams.{sentBy};
 use super::RbResult;
 use datagram::placing::RbDatagram;
 use datagram::placing::from_datagram;
-use datagram::sending::to_datagram;
+use sending::to_datagram;
 
 // Reads a request.
 #[no_mangle]

@@ -13,12 +13,12 @@ use Rattle.message.specs.declared.form.Field.the-variants.{Cut, Whole}
 use Rattle.message.specs.Form.{tagAllowed}
 use Rattle.message.specs.Request.{contentRole}
 use Rattle.message.proofs.FormLaws.{cond-cases}
-use Rattle.datagram.specs.declared.ber.Found.{Found}
-use Rattle.datagram.specs.declared.ber.Found.the-variants.{Refused, At}
+use Rattle.ber.specs.declared.Found.{Found}
+use Rattle.ber.specs.declared.Found.the-variants.{Refused, At}
 use Rattle.datagram.specs.declared.reading.Opening.{Opening}
 use Rattle.datagram.specs.declared.reading.Head.{Head}
 use Rattle.datagram.specs.declared.reading.BerBinding.{BerBinding}
-use Rattle.datagram.specs.Ber.{lengthOctets, fieldAt, fieldThen, foundThen, partAt, numberAt, isNumber, fewest, integer32, nameWhole, nameFits, contentTag, contentJudged}
+use Rattle.ber.specs.Ber.{lengthOctets, fieldAt, fieldThen, foundThen, partAt, numberAt, isNumber, fewest, integer32, nameWhole, nameFits, contentTag, contentJudged}
 use Rattle.datagram.specs.Reading.{pduTaken, pduIn, communityIn, versionIn, openingOf, statusJudged, statusAt, listIn, indexIn, statusIn, headIn, contentIn, nameIn, bindingAt, seventeenth, Bindings, ended, all, prepend, berBindingThen, bindingsFrom, wholeOf, openingThen, headThen, DatagramRead, refused, message, pduOf, readDatagram}
 
 -- a refusal's number is not 0

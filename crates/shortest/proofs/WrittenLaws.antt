@@ -18,13 +18,13 @@ use Rattle.message.specs.Request as request
 use Rattle.message.specs.Request.{kindAllowed, statusAllowed}
 use Rattle.message.specs.Answer.{Bound, headOctets, messageOctets, mostOctets, boundAt}
 use Rattle.message.proofs.FormLaws.{cond-cases}
-use Rattle.datagram.specs.Ber.{fewest}
+use Rattle.ber.specs.Ber.{fewest}
 use Rattle.datagram.specs.Reading.{fromDatagram}
-use Rattle.datagram.specs.Writing.{lengthForm, headerForm, berOctets, shortened, goingOn, base128, numbersOctets, firstOne, nameBer, berTag, contentBer, bindingBer, bindingsBer, responseBer, datagramOctets, readResponse, Sent, sentBy, toDatagram}
-use Rattle.datagram.specs.Theorems.{AllCarried}
+use Rattle.sending.specs.Writing.{lengthForm, headerForm, berOctets, shortened, goingOn, base128, numbersOctets, firstOne, nameBer, berTag, contentBer, bindingBer, bindingsBer, responseBer, datagramOctets, readResponse, Sent, sentBy, toDatagram}
+use Rattle.sending.specs.Theorems.{AllCarried}
 use Rattle.datagram.proofs.PlaceLaws.{name-back}
-use Rattle.datagram.proofs.ReadBack.{any-response, carried-by}
-use Rattle.datagram.proofs.SentBack.{ReadingOwn, reading-own, sent-reads-back}
+use Rattle.sending.proofs.ReadBack.{any-response, carried-by}
+use Rattle.sending.proofs.SentBack.{ReadingOwn, reading-own, sent-reads-back}
 use Rattle.datagram.proofs.ReadableLaws.{nothing}
 use Rattle.shortest.specs.Theorems.{Shortest, WritesShortest}
 use Rattle.shortest.proofs.LeastLaws.{octets-form}

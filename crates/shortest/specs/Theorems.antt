@@ -9,7 +9,7 @@ use Rattle.octets.specs.Parts.{part, patch}
 use Rattle.message.specs.Form.{atKind}
 use Rattle.message.specs.Answer.{mostOctets}
 use Rattle.datagram.specs.Reading.{fromDatagram}
-use Rattle.datagram.specs.Writing.{toDatagram}
+use Rattle.sending.specs.Writing.{toDatagram}
 
 -- the message's kind is that of a response
 abbrev pub isResponse : List ℕ → Bool

@@ -1,0 +1,3 @@
+pub mod BerLaws
+pub mod NameLaws
+pub mod ContentLaws
