@@ -9,6 +9,7 @@ ghost use Rattle.answer.specs.Terms.{isSet};
 ghost use Rattle.answer.specs.Judge.{groupOf};
 ghost use Rattle.batch.specs.Names.{groupsOf, sameGroup, among, common};
 ghost use Rattle.batch.specs.Found.{meant, Few, groups};
+use identifiers::targets::target_of;
 use message::form::HEAD_SIZE;
 use message::request::BindingRead;
 use message::request::binding_at;
@@ -16,7 +17,6 @@ use names::model::Model;
 use names::table::OBJECT_COUNT;
 use names::targets::Target;
 use names::targets::group_of;
-use names::targets::target_of;
 
 // A row or scalar that is named: its group, as the place of its first object, and its key; the group NOTHING where none is named.
 pub struct NamedGroup {

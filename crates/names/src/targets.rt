@@ -1,57 +1,15 @@
-// What a name leads to: its object type and the key of its index, and the group of an object.
+// What a name leads to, and the group of an object.
 ghost use mathlib.Core.Path.{_≡_};
-ghost use mathlib.Core.Option.{some};
-ghost use Prim.Native.Nat.{_+_, _*_, _≤_, _<_};
-ghost use lib.ListN.{length};
-ghost use Rattle.names.specs.SubIds.{subids};
-ghost use Rattle.names.specs.Table.{objectCount, objectAt};
-ghost use Rattle.names.specs.Targets.{targetUnder, onModel, targetIn};
+ghost use Prim.Native.Nat.{_<_};
+ghost use Rattle.names.specs.Table.{objectCount};
 ghost use Rattle.names.specs.Groups.{tableOf};
-use super::Key;
-use super::device::has_object;
-use super::index::key_of;
-use super::model::Model;
 use super::places;
-use super::table::Found;
-use super::table::object;
-use super::table::type_of;
 
 // No object type of the device is a prefix of the name; the rest of the name is no index that this bridge can have; or the place of the object type and the key.
 pub enum Target {
     Unknown,
     NoIndex(usize),
     At { place: usize, key: u64 },
-}
-
-// What a name leads to that has the object at place i as a prefix.
-fn target_under(m: Model, i: usize, name: &[u8]) -> Target
-    requires { ⌜ (m .ports ≤ 64) × (i < objectCount) × (4 * (7 + objectAt i .len) ≤ length (now name)) ⌝ }
-    ensures { λ r. ⌜ r ≡ targetUnder (m .ports) (subids (now (name .entry))) (onModel m (some i)) ⌝ }
-{
-    let o = object(i);
-    if has_object(m.device, o) {
-        let shape = o.shape;
-        let at = 4 * (7 + o.len);
-        let key = key_of(m.ports, shape, &name[at..]);
-        match key {
-            Key::At(k) => Target::At { place: i, key: k },
-            Key::Nothing => Target::NoIndex(i),
-        }
-    } else {
-        Target::Unknown
-    }
-}
-
-// What a name leads to on a model.
-pub fn target_of(m: Model, name: &[u8]) -> Target
-    requires { ⌜ m .ports ≤ 64 ⌝ }
-    ensures { λ r. ⌜ r ≡ targetIn m (subids (now (name .entry))) ⌝ }
-{
-    let found = type_of(name);
-    match found {
-        Found::Object(i) => target_under(m, i, name),
-        Found::Unknown => Target::Unknown,
-    }
 }
 
 // The group of the object at a place: the first object of its table; the three bridge timers are one scalar, every other scalar is its own.

@@ -10,11 +10,11 @@ ghost use Rattle.walks.specs.Turn.{turned, turnOf, turnAt, noTurn, turnO
 use super::contrast::NO_ENTRY;
 use super::contrast::contrasts;
 use super::walk::SET;
+use identifiers::order::relate;
 use message::request::Binding;
 use message::request::BindingRead;
 use message::request::binding_at;
 use names::order::Relation;
-use names::order::relate;
 use octets::numbers::put;
 use octets::parts::copy_in;
 
