@@ -19,6 +19,9 @@ left-of a b e = both a b e .0
 pub right-of : (a b : Bool) → a && b ≡ true → b ≡ true
 right-of a b e = both a b e .1
 
+pub both-lt : (i n j m : ℕ) → (ltb i n && ltb j m) ≡ true → (i < n) × (j < m)
+both-lt i n j m e = let b = both (ltb i n) (ltb j m) e in (ltb-true i n (b .0), ltb-true j m (b .1))
+
 -- a test that cannot hold is false
 pub is-false : (t : Bool) → (t ≡ true → ⊥) → t ≡ false
 is-false true h = absurd (h refl)

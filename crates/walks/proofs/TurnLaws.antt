@@ -6,10 +6,10 @@ use mathlib.Core.List.{List, [], _∷_, _++_, append-nil}
 use mathlib.Core.Bool.{true, false, cond, _&&_}
 use native.Mathlib.Decide.{decLt}
 use native.Mathlib.Omega.{arith}
-use borrow.Author.Tests.{lt-ltb, ltb-true}
+use borrow.Author.Tests.{lt-ltb}
 use lib.ListN.{length}
 use lib.Dec.{eqb, ltb}
-use Rattle.octets.proofs.BoolLaws.{both}
+use Rattle.octets.proofs.BoolLaws.{both-lt}
 use Rattle.message.proofs.FormLaws.{clash}
 use Rattle.names.specs.Order.{relation}
 use Rattle.walks.specs.Walk.{Item, item, walkOf, walkJudged}
@@ -163,9 +163,6 @@ pub record Along (s t : List ℕ) (i j : ℕ) (done : List Entry) : Type 0 where
 
 pub along-start : (s t : List ℕ) → walkJudged (walkOf s) ≡ WalkJudged.Whole → walkJudged (walkOf t) ≡ WalkJudged.Whole → Along s t 0 0 []
 along-start s t e f = record { xs = items (walkOf s); ys = items (walkOf t); ours = left-start s e; theirs = left-start t f; all = refl }
-
-both-lt : (i n j m : ℕ) → (ltb i n && ltb j m) ≡ true → (i < n) × (j < m)
-both-lt i n j m e = let b = both (ltb i n) (ltb j m) e in (ltb-true i n (b .0), ltb-true j m (b .1))
 
 module _ {s t : List ℕ} {i j : ℕ} {done : List Entry} (a : Along s t i j done) where
   -- a turn
