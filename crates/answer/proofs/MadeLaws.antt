@@ -15,6 +15,7 @@ use Rattle.names.specs.Table.{objectAt}
 use Rattle.names.specs.Places.{pairBridgeNum}
 use Rattle.names.specs.Instances.{instanceName}
 use Rattle.names.specs.Ascending.{All}
+use Rattle.names.specs.declared.model.Model.{Model}
 use Rattle.block.specs.Content.{Content, modelOf}
 use Rattle.block.specs.Lookup.{keysOf, lookup}
 use Rattle.block.specs.Valid.{valid, testOf}
@@ -40,21 +41,21 @@ use Rattle.answer.proofs.OnlyWriteLaws.{field-started}
 use Rattle.answer.proofs.StoredLaws.{shows, held, row-got, field-quiet}
 
 -- the row that a change of the status column makes shows what a made row starts with
-starts : (n : ℕ) (t : Table) (k : ℕ) (f : Field t) (x : Status t) (r : Row t) → statusStep n t k x none ≡ some r
-    → shows n t (field f) r ≡ startValue n t k (columnPlace t (field f))
-starts n vlan k f (create s) r e = subst (λ r. shows n vlan (field f) r ≡ startValue n vlan k (columnPlace vlan (field f))) (Option·some-injective (madeVlan n k s) r e) (go f)
+starts : (m : Model) (t : Table) (k : ℕ) (f : Field t) (x : Status t) (r : Row t) → statusStep m t k x none ≡ some r
+    → shows m t (field f) r ≡ startValue m t k (columnPlace t (field f))
+starts m vlan k f (create s) r e = subst (λ r. shows m vlan (field f) r ≡ startValue m vlan k (columnPlace vlan (field f))) (Option·some-injective (madeVlan m k s) r e) (go f)
   where
-    go : (f : Field vlan) → shows n vlan (field f) (madeVlan n k s) ≡ startValue n vlan k (columnPlace vlan (field f))
+    go : (f : Field vlan) → shows m vlan (field f) (madeVlan m k s) ≡ startValue m vlan k (columnPlace vlan (field f))
     go (name xs) = refl
     go (egress s) = refl
     go (forbidden s) = refl
     go (untagged s) = refl
-starts n vlan k f (state s) r e = absurd (Option·none-ne-some r e)
-starts n vlan k f destroy r e = absurd (Option·none-ne-some r e)
-starts n static k (allowed s) (keep x) r e = ap (shows n static (field (allowed s))) (sym (Option·some-injective _ r e))
-starts n static k f drop r e = absurd (Option·none-ne-some r e)
-starts n pair k (bridgeNumber x) (paired s) r e = ap (shows n pair (field (bridgeNumber x))) (sym (Option·some-injective _ r e))
-starts n pair k f unpaired r e = absurd (Option·none-ne-some r e)
+starts m vlan k f (state s) r e = absurd (Option·none-ne-some r e)
+starts m vlan k f destroy r e = absurd (Option·none-ne-some r e)
+starts m static k (allowed s) (keep x) r e = ap (shows m static (field (allowed s))) (sym (Option·some-injective _ r e))
+starts m static k f drop r e = absurd (Option·none-ne-some r e)
+starts m pair k (bridgeNumber x) (paired s) r e = ap (shows m pair (field (bridgeNumber x))) (sym (Option·some-injective _ r e))
+starts m pair k f unpaired r e = absurd (Option·none-ne-some r e)
 
 -- a row of a valid content has an index that the bridge can have, and its table is one that the device has
 can-row : (t : Table) (c : Content) (k : ℕ) → valid c ≡ true → present (lookup k (rowsOf t c)) ≡ true → canHave (c .ports) (shapeOf t) (index (shapeOf t) k) ≡ true
@@ -89,25 +90,25 @@ unbound k ((j, field f) ∷ ws) h =
     rw (ne-eqb k j (elem-not-head k j rest h)) (unbound k ws (elem-not-tail k j rest h))
 
 -- a binding that makes an absent pair without it is at fault
-lacks-number : (n : ℕ) (f : Bool) (ws : List (ℕ × ColumnOf pair)) (k : ℕ) (x : ColumnOf pair) → has (λ c. not (isStatus c)) k ws ≡ false
-    → onStatus (makes pair) x ≡ true → rowFault n pair f ws k x none ≡ 0 → ⊥
+lacks-number : (m : Model) (f : Bool) (ws : List (ℕ × ColumnOf pair)) (k : ℕ) (x : ColumnOf pair) → has (λ c. not (isStatus c)) k ws ≡ false
+    → onStatus (makes pair) x ≡ true → rowFault m pair f ws k x none ≡ 0 → ⊥
 unfolding rowFault
-lacks-number n f ws k (status (paired s)) b q h = omega (arith, rw b at h)
-lacks-number n f ws k (status unpaired) b q h = false≢true q
-lacks-number n f ws k (field y) b q h = false≢true q
+lacks-number m f ws k (status (paired s)) b q h = omega (arith, rw b at h)
+lacks-number m f ws k (status unpaired) b q h = false≢true q
+lacks-number m f ws k (field y) b q h = false≢true q
 
 -- and without such a binding the pair stays absent
-stays-absent : (n k : ℕ) (x : ColumnOf pair) → onStatus (makes pair) x ≡ false → (o : Option (Row pair)) → present o ≡ false → present (step n pair k x o) ≡ false
-stays-absent n k (status (paired s)) q o h = absurd (true≢false q)
-stays-absent n k (status unpaired) q o h = refl
-stays-absent n k (field y) q none h = refl
-stays-absent n k (field y) q (some r) h = h
+stays-absent : (m : Model) (k : ℕ) (x : ColumnOf pair) → onStatus (makes pair) x ≡ false → (o : Option (Row pair)) → present o ≡ false → present (step m pair k x o) ≡ false
+stays-absent m k (status (paired s)) q o h = absurd (true≢false q)
+stays-absent m k (status unpaired) q o h = refl
+stays-absent m k (field y) q none h = refl
+stays-absent m k (field y) q (some r) h = h
 
 -- so an accepted set names the bridge number of each pair that it makes
 pub made-numbered : (c : Content) (bs : List Asked) → valid c ≡ true → (k : ℕ) → present (lookup k (c .pairs)) ≡ false
     → present (lookup k (after c (judged (modelOf c) bs) .pairs)) ≡ true → All (λ b. b .name ≡ instanceName (objectAt pairBridgeNum) k → ⊥) bs → ⊥
 made-numbered c bs ok k was now un =
-    let n : ℕ = c .ports in
+    let n : Model = modelOf c in
     let m : List Judged = judged (modelOf c) bs in
     let ws : List (ℕ × ColumnOf pair) = writesTo pair m in
     let us : List (ℕ × ColumnOf pair) = ordered isStatus ws in
@@ -129,10 +130,10 @@ made-numbered c bs ok k was now un =
 pub made-start : (c : Content) (bs : List Asked) → valid c ≡ true → All (λ b. Octets (b .content)) bs → verdict c (judged (modelOf c) bs) .status ≡ 0
     → (t : Table) (k : ℕ) (f : Field t) → present (lookup k (rowsOf t c)) ≡ false → present (lookup k (rowsOf t (after c (judged (modelOf c) bs)))) ≡ true
     → All (λ b. b .name ≡ columnName t k f → ⊥) bs
-    → get (after c (judged (modelOf c) bs)) (columnName t k f) ≡ startValue (c .ports) t k (columnPlace t (field f))
+    → get (after c (judged (modelOf c) bs)) (columnName t k f) ≡ startValue (modelOf c) t k (columnPlace t (field f))
 unfolding apply
 made-start c bs ok o e t k f was now un =
-    let n : ℕ = c .ports in
+    let n : Model = modelOf c in
     let m : List Judged = judged (modelOf c) bs in
     let few = valid-parts c ok .fewPorts in
     let ws : List (ℕ × ColumnOf t) = writesTo t m in

@@ -80,7 +80,7 @@ writtenAs i k v xs = writtenTo (columnIn i) i k v xs
 abbrev pub contentSaidOf : ℕ → List ℕ → Said → ContentSaid
 contentSaidOf i xs q = cond (eqb (q .fault) 0) (right (λ k. writtenAs i k (q .value) xs)) (wrong (q .fault))
 
--- what a number, in an edition, and a port set say
+-- what a number, in an edition, and a port set, on a bridge of a model, say
 abbrev pub numberOk : ℕ → ℕ → ℕ → Bool
 numberOk e i v = takes e (objectAt i) v && not (eqb i vlanRowStatus && eqb v 3)
 
@@ -93,8 +93,8 @@ rightly v = record { fault = 0; value = v }
 abbrev pub numberSaid : ℕ → ℕ → ℕ → Said
 numberSaid e i v = cond (numberOk e i v) (rightly v) (wrongly 10)
 
-abbrev pub portsSaid : ℕ → List ℕ → Said
-portsSaid n xs = cond (leb (length xs) 8) (cond (onlyTo 64 n (setOf xs)) (rightly (setOf xs)) (wrongly 10)) (wrongly 8)
+abbrev pub portsSaid : Model → List ℕ → Said
+portsSaid m xs = cond (leb (length xs) 8) (cond (onlyTo 64 (m .ports) (setOf xs)) (rightly (setOf xs)) (wrongly 10)) (wrongly 8)
 
 -- a binding at fault as the code keeps it; one whose name has no index that the bridge can have, by what its content says; and one that names the instance of the
 -- object at place i that has the key k

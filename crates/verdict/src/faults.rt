@@ -7,7 +7,9 @@ ghost use mathlib.Core.List.{List};
 ghost use lib.ListN.{take};
 ghost use Rattle.names.specs.Places.{isTimer};
 ghost use Rattle.octets.specs.Parts.{part};
+ghost use Rattle.names.specs.declared.model.Model.{Model};
 ghost use Rattle.block.specs.Cells.{timerIn};
+ghost use Rattle.block.specs.Content.{modelOf};
 ghost use Rattle.block.specs.Image.{contentOf};
 ghost use Rattle.block.specs.Lookup.{lookup};
 ghost use Rattle.block.specs.Valid.{timersOk, legal};
@@ -152,7 +154,7 @@ fn sets_before(block: &[u8], key: u64) -> Sets
 
 // What a number in RowStatus makes of them.
 fn with_status(sets: Sets, v: u64) -> Sets
-    ensures { λ r. ⌜ ((n k : ℕ) (o : Option VlanRow) → sets ≡ setsOf o → r ≡ setsOf (statusStep n vlan k (statusOf vlan v) o)) ⌝ }
+    ensures { λ r. ⌜ ((m : Model) (k : ℕ) (o : Option VlanRow) → sets ≡ setsOf o → r ≡ setsOf (statusStep m vlan k (statusOf vlan v) o)) ⌝ }
 {
     if removes_row(Table::Vlan, v) {
         return Sets {
@@ -171,7 +173,7 @@ fn with_status(sets: Sets, v: u64) -> Sets
 // After the status columns of a message.
 fn after_statuses(sets: Sets, kept: [Kept; 16], count: usize, key: u64) -> Sets
     requires { ⌜ count ≤ 16 ⌝ }
-    ensures { λ r. ⌜ ((n : ℕ) (s : List ℕ) (o : Option VlanRow) → sets ≡ setsOf o → r ≡ setsOf (playRow (step n vlan) key (those isStatus (writesTo vlan (meantBy s kept count))) o)) ⌝ }
+    ensures { λ r. ⌜ ((m : Model) (s : List ℕ) (o : Option VlanRow) → sets ≡ setsOf o → r ≡ setsOf (playRow (step m vlan) key (those isStatus (writesTo vlan (meantBy s kept count))) o)) ⌝ }
 {
     let mut after = sets;
     let mut i = 0;
@@ -188,7 +190,7 @@ fn after_statuses(sets: Sets, kept: [Kept; 16], count: usize, key: u64) -> Sets
 // After the other columns of a message.
 fn after_fields(sets: Sets, kept: [Kept; 16], count: usize, key: u64) -> Sets
     requires { ⌜ count ≤ 16 ⌝ }
-    ensures { λ r. ⌜ ((n : ℕ) (s : List ℕ) (o : Option VlanRow) → sets ≡ setsOf o → r ≡ setsOf (playRow (step n vlan) key (those (λ c. not (isStatus c)) (writesTo vlan (meantBy s kept count))) o)) ⌝ }
+    ensures { λ r. ⌜ ((m : Model) (s : List ℕ) (o : Option VlanRow) → sets ≡ setsOf o → r ≡ setsOf (playRow (step m vlan) key (those (λ c. not (isStatus c)) (writesTo vlan (meantBy s kept count))) o)) ⌝ }
 {
     let mut egress = sets.egress;
     let mut forbidden = sets.forbidden;
@@ -214,7 +216,7 @@ fn after_fields(sets: Sets, kept: [Kept; 16], count: usize, key: u64) -> Sets
 // Whether the resulting row shares a port between Egress and Forbidden.
 fn shares_port(block: &[u8], kept: [Kept; 16], count: usize, key: u64) -> bool
     requires { ⌜ (legal (now block) ≡ true) × (count ≤ 16) ⌝ }
-    ensures { λ r. ⌜ ((n : ℕ) (s : List ℕ) → r ≡ clash (resulting n vlan (writesTo vlan (meantBy s kept count)) key (lookup key (contentOf (now (block .entry)) .vlans)))) ⌝ }
+    ensures { λ r. ⌜ ((m : Model) (s : List ℕ) → r ≡ clash (resulting m vlan (writesTo vlan (meantBy s kept count)) key (lookup key (contentOf (now (block .entry)) .vlans)))) ⌝ }
 {
     let before = sets_before(block, key);
     let made = after_statuses(before, kept, count, key);
@@ -267,7 +269,7 @@ fn status_fault(misplaced: bool, making: bool, there: bool, full: bool) -> u8
 // The fault of a clean binding of a column of a table.
 fn row_fault(block: &[u8], t: Table, kept: [Kept; 16], count: usize, full: bool, q: Kept) -> u8
     requires { ⌜ (legal (now block) ≡ true) × (count ≤ 16) ⌝ }
-    ensures { λ r. ⌜ ((s : List ℕ) → isColumn t (q .place) ≡ true → r ≡ rowFault (contentOf (now (block .entry)) .ports) t full (writesTo t (meantBy s kept count)) (q .key) (columnAt t (q .place) (q .value) (part s (q .at) (q .len))) (lookup (q .key) (rowsOf t (contentOf (now (block .entry)))))) ⌝ }
+    ensures { λ r. ⌜ ((s : List ℕ) → isColumn t (q .place) ≡ true → r ≡ rowFault (modelOf (contentOf (now (block .entry)))) t full (writesTo t (meantBy s kept count)) (q .key) (columnAt t (q .place) (q .value) (part s (q .at) (q .len))) (lookup (q .key) (rowsOf t (contentOf (now (block .entry)))))) ⌝ }
 {
     let key = q.key;
     let place = q.place as usize;

@@ -100,15 +100,15 @@ fn said_number(edition: u32, i: usize, v: u32) -> Said
 }
 
 // A port set in len octets of the request from index at on.
-fn said_ports(n: u32, request: &[u8], at: usize, len: usize) -> Said
-    requires { ⌜ (1 ≤ n) × (n ≤ 64) × (at + len ≤ length (now request)) ⌝ }
-    ensures { λ r. ⌜ r ≡ portsSaid n (part (now (request .entry)) at len) ⌝ }
+fn said_ports(m: Model, request: &[u8], at: usize, len: usize) -> Said
+    requires { ⌜ (1 ≤ m .ports) × (m .ports ≤ 64) × (at + len ≤ length (now request)) ⌝ }
+    ensures { λ r. ⌜ r ≡ portsSaid m (part (now (request .entry)) at len) ⌝ }
 {
     if 8 < len {
         return wrong(WRONG_LENGTH);
     }
     let set = set_at(request, at, len);
-    if only_to(n, set) {
+    if only_to(m.ports, set) {
         return right(set);
     }
     wrong(WRONG_VALUE)
@@ -135,7 +135,7 @@ fn said_by(m: Model, i: usize, request: &[u8], b: Binding) -> Said
             }
             right(NO_NUMBER)
         }
-        Syntax::Ports => said_ports(m.ports, request, b.content, b.len),
+        Syntax::Ports => said_ports(m, request, b.content, b.len),
         Syntax::Integer => said_number(m.edition, i, be4(request, b.content)),
         Syntax::Unsigned => said_number(m.edition, i, be4(request, b.content)),
         Syntax::Counter => said_number(m.edition, i, be4(request, b.content)),

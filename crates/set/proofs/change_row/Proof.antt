@@ -8,6 +8,8 @@ use native.Mathlib.Omega.{arith}
 use lib.ListN.{length, getD}
 use Rattle.octets.specs.Parts.{part}
 use Rattle.octets.proofs.PartLaws.{part-length}
+use Rattle.names.specs.declared.model.Model.{Model}
+use Rattle.block.specs.Content.{modelOf}
 use Rattle.block.specs.Image.{contentOf}
 use Rattle.block.specs.Lookup.{keysOf, findKey, noVlan, noStatic, noPair}
 use Rattle.block.specs.Tables.{rowsOf}
@@ -35,15 +37,15 @@ Asked t c =
 asked : {t : Table} (c : tie.Start) → c .args .t ≡ t → Asked t c
 asked c e = subst (λ (u : Table). Asked u c) e (c .pre)
 
--- the octets that the kept binding writes, the change of a column that it is, and the number of ports
+-- the octets that the kept binding writes, the change of a column that it is, and the bridge's model
 abbrev octets : tie.Start → List ℕ
 octets c = part (c .args .request .now) (c .args .q .at) (c .args .q .len)
 
 abbrev column : (t : Table) → tie.Start → ColumnOf t
 column t c = columnAt t (c .args .q .place) (c .args .q .value) (octets c)
 
-abbrev bridge : tie.Start → ℕ
-bridge c = contentOf (c .args .block .now) .ports
+abbrev bridge : tie.Start → Model
+bridge c = modelOf (contentOf (c .args .block .now))
 
 enum-told : tie.Need-enum-told
 enum-told c = search needs

@@ -1,6 +1,7 @@
 -- `set::loses_active` meets its contract. Assumes nothing.
 use mathlib.Core.Path.{_≡_, sym, _∙_}
 use lib.ListN.{getD}
+use Rattle.block.specs.Content.{modelOf}
 use Rattle.block.specs.Image.{contentOf}
 use Rattle.block.specs.Lookup.{keysOf, findKey, noVlan}
 use Rattle.block.specs.declared.rows.Place.the-variants.{At, Absent}
@@ -41,7 +42,7 @@ returns c =
     let q = a .args .q in
     let vs = contentOf (a .args .block .now) .vlans in
     let e : findKey (q .key) (keysOf vs) ≡ At (g .0 .0) = sym (c .before .before .before .before .before .before .find-row .ensures) ∙ g .1 in
-    rw (c .removes-row .ensures, c .before .before .vlan .ensures, find-lookup (q .key) vs (g .0 .0) noVlan e) (sym (loses-is (contentOf (a .args .block .now) .ports) (q .key) (getD vs (g .0 .0) noVlan .1) (q .value)))
+    rw (c .removes-row .ensures, c .before .before .vlan .ensures, find-lookup (q .key) vs (g .0 .0) noVlan e) (sym (loses-is (modelOf (contentOf (a .args .block .now))) (q .key) (getD vs (g .0 .0) noVlan .1) (q .value)))
 
 returns-2 : tie.Need-returns-2
 returns-2 c =

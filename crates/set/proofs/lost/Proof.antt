@@ -8,6 +8,7 @@ use native.Mathlib.Nat.{zero-add}
 use native.Mathlib.Omega.{arith}
 use lib.ListN.{length, take, drop, getD}
 use Rattle.octets.proofs.BoolLaws.{one-or-none}
+use Rattle.block.specs.Content.{modelOf}
 use Rattle.block.specs.Image.{contentOf}
 use Rattle.verdict.specs.Kept.{meant, meantBy}
 use Rattle.set.proofs.PhaseLaws.{lostBy, losesBy, lost-turn, lost-end}
@@ -19,8 +20,8 @@ use Rattle.verdict.proofs.PastEnd.{pastEnd}
 abbrev Inv-loop : tie.InvT-loop
 Inv-loop block count kept rows₀ i₀ rows i =
     (i ≤ count) × (rows ≤ i)
-    × ((s : List ℕ) → lostBy (contentOf block .ports) (contentOf block .vlans) (meantBy s kept count)
-    ≡ rows + lostBy (contentOf block .ports) (contentOf block .vlans) (map (meant s) (drop i (take count kept))))
+    × ((s : List ℕ) → lostBy (modelOf (contentOf block)) (contentOf block .vlans) (meantBy s kept count)
+    ≡ rows + lostBy (modelOf (contentOf block)) (contentOf block .vlans) (map (meant s) (drop i (take count kept))))
 
 abbrev μ-loop : tie.MeasureT-loop
 μ-loop block count kept rows₀ i₀ rows i = count - i
@@ -54,7 +55,7 @@ start c = c .before .before .before .before .before .before
 
 -- what a turn adds
 turn : (c : tie.Joined1 Inv-loop μ-loop) → let l = c .before .before .before .before .loop in
-    c .if1 .rows ≡ l .rows + cond (losesBy (contentOf (start c .args .block .now) .ports) (contentOf (start c .args .block .now) .vlans) (getD (start c .args .t2) (l .i) pastEnd)) 1 0
+    c .if1 .rows ≡ l .rows + cond (losesBy (modelOf (contentOf (start c .args .block .now))) (contentOf (start c .args .block .now) .vlans) (getD (start c .args .t2) (l .i) pastEnd)) 1 0
 turn c =
     let a = start c .args in
     let q = getD (a .t2) (c .before .before .before .before .loop .i) pastEnd in
@@ -68,7 +69,7 @@ loop-again : tie.Need-loop-again Inv-loop μ-loop
 loop-again c =
     let a = start c in
     let l = c .before .before .before .before .loop in
-    let n = contentOf (a .args .block .now) .ports in
+    let n = modelOf (contentOf (a .args .block .now)) in
     let vs = contentOf (a .args .block .now) .vlans in
     let sixteen : length (a .args .t2) ≡ 16 = search needs in
     let few : cond (losesBy n vs (getD (a .args .t2) (l .i) pastEnd)) 1 0 ≤ 1 = one-or-none (losesBy n vs (getD (a .args .t2) (l .i) pastEnd)) in (
@@ -82,7 +83,7 @@ returns c s =
     let a = c .before .before .before in
     let l = c .before .loop in
     let sixteen : length (a .args .t2) ≡ 16 = search needs in
-    omega (arith, l .inv .2 s, lost-end (contentOf (a .args .block .now) .ports) (contentOf (a .args .block .now) .vlans) s (a .args .t2) (a .args .count) (omega arith) (l .i) (omega arith))
+    omega (arith, l .inv .2 s, lost-end (modelOf (contentOf (a .args .block .now))) (contentOf (a .args .block .now) .vlans) s (a .args .t2) (a .args .count) (omega arith) (l .i) (omega arith))
 
 pub lost-spec : {M : Type 1} → statement M
 lost-spec =

@@ -10,7 +10,7 @@ cast-t2 : tie.Need-cast-t2
 cast-t2 c = omega (arith, c .pre .1)
 
 returns : tie.Need-returns
-returns c n k = sym (status-made n pair k (c .args .v) (c .pre .0))
+returns c m k = sym (status-made m pair k (c .args .v) (c .pre .0))
 
 pub made-pair-spec : {M : Type 1} → statement M
 made-pair-spec = tie.close (tie.spec cast-t2 returns)

@@ -16,7 +16,7 @@ ports-to-requires c κs = search needs
 returns : tie.Need-returns
 returns c k =
     let a = c .before in
-    rw (c .ports-to .ensures) (sym (status-made (a .args .n) static k (a .args .v) (a .pre .0)))
+    rw (c .ports-to .ensures) (sym (status-made (a .args .m) static k (a .args .v) (a .pre .0)))
 
 pub made-static-spec : {M : Type 1} → statement M
 made-static-spec = tie.close (tie.spec cast-t3 ports-to-requires returns)

@@ -21,7 +21,7 @@ returns : tie.Need-returns
 unfolding zeros
 returns c =
     let a = c .before in
-    rw (c .untagged-made .ensures) (sym (status-made (a .args .n) vlan (a .args .key) (a .args .v) (a .pre .0)))
+    rw (c .untagged-made .ensures) (sym (status-made (a .args .m) vlan (a .args .key) (a .args .v) (a .pre .0)))
 
 pub made-vlan-spec : {M : Type 1} → statement M
 made-vlan-spec = tie.close (tie.spec sub-t4 cast-t5 untagged-made-requires returns)

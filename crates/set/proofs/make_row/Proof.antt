@@ -2,9 +2,11 @@
 use mathlib.Core.Path.{_≡_, sym, ap, subst, _∙_}
 use mathlib.Core.Bool.{true}
 use mathlib.Core.Option.{none}
-use Prim.Native.Nat.{ℕ, _<_}
+use Prim.Native.Nat.{_<_}
 use native.Mathlib.Omega.{arith}
 use lib.ListN.{length}
+use Rattle.names.specs.declared.model.Model.{Model}
+use Rattle.block.specs.Content.{modelOf}
 use Rattle.block.specs.Image.{contentOf}
 use Rattle.block.specs.Lookup.{keysOf, findKey}
 use Rattle.block.specs.Tables.{rowsOf, most}
@@ -36,8 +38,8 @@ Asked t c =
 asked : {t : Table} (c : tie.Start) → c .args .t ≡ t → Asked t c
 asked c e = subst (λ (u : Table). Asked u c) e (c .pre)
 
-ports-requires : tie.Need-ports-requires
-ports-requires c κs = written-sized (c .before .before .pre .0) .long
+model-requires : tie.Need-model-requires
+model-requires c κs = written-sized (c .before .before .pre .0) .long
 
 enum-told : tie.Need-enum-told
 enum-told c = search needs
@@ -45,7 +47,7 @@ enum-told c = search needs
 made-vlan-requires : tie.Need-made-vlan-requires
 made-vlan-requires c κs =
     let p = asked (c .before .before .before .before .before .before) (c .before .enum-told .given .1) in
-    (p .3, omega (arith, c .before .before .before .ports .ensures, p .0 .whole .stored .fewPorts))
+    (p .3, omega (arith, ap (λ (d : Model). d .ports) (c .before .before .before .model .ensures), p .0 .whole .stored .fewPorts))
 
 insert-vlan-requires : tie.Need-insert-vlan-requires
 insert-vlan-requires c κs =
@@ -60,7 +62,7 @@ made-static-requires : tie.Need-made-static-requires
 made-static-requires c κs =
     let a = c .before .before .before .before .before .before in
     let p = asked a (c .before .enum-told2 .given .1) in
-    (p .3, static-small (a .args .v) (p .2), omega (arith, c .before .before .before .ports .ensures, p .0 .whole .stored .fewPorts))
+    (p .3, static-small (a .args .v) (p .2), omega (arith, ap (λ (d : Model). d .ports) (c .before .before .before .model .ensures), p .0 .whole .stored .fewPorts))
 
 insert-static-requires : tie.Need-insert-static-requires
 insert-static-requires c κs =
@@ -94,7 +96,7 @@ returns c =
     let x = statusOf vlan (a .args .v) in
     rw told
     (insert-becomes vlan (p .0) (a .args .key) (status x) (p .1) (p .2) _ (p .4)
-    (sym (c .before .before .before .made-vlan .ensures ∙ ap (λ (n : ℕ). statusStep n vlan (a .args .key) x none) (c .before .before .before .before .before .before .before .ports .ensures)))
+    (sym (c .before .before .before .made-vlan .ensures ∙ ap (λ (m : Model). statusStep m vlan (a .args .key) x none) (c .before .before .before .before .before .before .before .model .ensures)))
     (p .5)
     (c .before .before .insert-vlan .ensures _ (p .0 .whole .stored .shape) (sym (p .0 .same))))
 
@@ -109,7 +111,7 @@ returns-2 c =
     let x = statusOf static (a .args .v) in
     rw told
     (insert-becomes static (p .0) (a .args .key) (status x) (p .1) (p .2) _ (p .4)
-    (sym (c .before .before .before .made-static .ensures (a .args .key) ∙ ap (λ (n : ℕ). statusStep n static (a .args .key) x none) (c .before .before .before .before .before .before .before .ports .ensures)))
+    (sym (c .before .before .before .made-static .ensures (a .args .key) ∙ ap (λ (m : Model). statusStep m static (a .args .key) x none) (c .before .before .before .before .before .before .before .model .ensures)))
     (p .5)
     (c .before .before .insert-static .ensures _ (p .0 .whole .stored .shape) (sym (p .0 .same))))
 
@@ -124,7 +126,7 @@ returns-3 c =
     let x = statusOf pair (a .args .v) in
     rw told
     (insert-becomes pair (p .0) (a .args .key) (status x) (p .1) (p .2) _ (p .4)
-    (sym (c .before .before .before .made-pair .ensures (contentOf (a .args .block .now) .ports) (a .args .key)))
+    (sym (c .before .before .before .made-pair .ensures (modelOf (contentOf (a .args .block .now))) (a .args .key)))
     (p .5)
     (c .before .before .insert-pair .ensures _ (p .0 .whole .stored .shape) (sym (p .0 .same))))
 
@@ -132,7 +134,7 @@ pub make-row-spec : {M : Type 1} → statement M
 make-row-spec =
     tie.close
     (tie.spec
-    ports-requires
+    model-requires
     enum-told
     made-vlan-requires
     insert-vlan-requires

@@ -14,7 +14,7 @@ cast-t5 : tie.Need-cast-t5
 cast-t5 c = omega (arith, c .before .before .before .pre .0)
 
 returns : tie.Need-returns
-returns c n xs =
+returns c m xs =
     let a = c .before .before .before in
     rw (c .before .if1 .taken, pair-stays (a .args .q .value) (a .pre .1 (c .before .if1 .taken)))
 
@@ -22,7 +22,7 @@ cast-t6 : tie.Need-cast-t6
 cast-t6 c = omega (arith, c .before .before .before .pre .0)
 
 returns-2 : tie.Need-returns-2
-returns-2 c n xs = rw (ne-eqb (c .before .before .before .args .q .place) pairBridgeState (c .before .if1 .left))
+returns-2 c m xs = rw (ne-eqb (c .before .before .before .args .q .place) pairBridgeState (c .before .if1 .left))
 
 pub pair-with-spec : {M : Type 1} → statement M
 pair-with-spec = tie.close (tie.spec cast-if1 cast-t5 returns cast-t6 returns-2)

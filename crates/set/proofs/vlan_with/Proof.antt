@@ -30,35 +30,35 @@ cast-status : tie.Need-cast-status
 cast-status c = search needs
 
 returns : tie.Need-returns
-returns c n =
+returns c m =
     let a = c .before .before .before .before .before .before .before in
     let q = a .args .q in
     rw (c .before .before .before .match .keys1, part-length (a .args .request .now) (q .at) (q .len) (a .pre .2), c .name-octets .ensures)
 
 returns-2 : tie.Need-returns-2
-returns-2 c n = rw (c .match .keys2)
+returns-2 c m = rw (c .match .keys2)
 
 returns-3 : tie.Need-returns-3
-returns-3 c n = rw (c .match .keys3)
+returns-3 c m = rw (c .match .keys3)
 
 returns-4 : tie.Need-returns-4
-returns-4 c n = rw (c .match .keys4)
+returns-4 c m = rw (c .match .keys4)
 
 returns-5 : tie.Need-returns-5
-returns-5 c n =
+returns-5 c m =
     let a = c .before .before .before .before .before .before .before in
     let q = a .args .q in
     let t = both (leb vlanName (q .place)) (leb (q .place) vlanRowStatus) (a .pre .0) in
     let e : q .place ≡ vlanRowStatus = omega (arith, leb-true vlanName (q .place) (t .0), leb-true (q .place) vlanRowStatus (t .1)) in
-    rw (e, vlan-stated n (q .key) (q .value) (part (a .args .request .now) (q .at) (q .len)) (a .args .row) (a .pre .1 e), le-leb (q .value) 2 (omega arith))
+    rw (e, vlan-stated m (q .key) (q .value) (part (a .args .request .now) (q .at) (q .len)) (a .args .row) (a .pre .1 e), le-leb (q .value) 2 (omega arith))
 
 returns-6 : tie.Need-returns-6
-returns-6 c n =
+returns-6 c m =
     let a = c .before .before .before .before .before .before in
     let q = a .args .q in
     let t = both (leb vlanName (q .place)) (leb (q .place) vlanRowStatus) (a .pre .0) in
     let e : q .place ≡ vlanRowStatus = omega (arith, leb-true vlanName (q .place) (t .0), leb-true (q .place) vlanRowStatus (t .1)) in
-    rw (e, vlan-stated n (q .key) (q .value) (part (a .args .request .now) (q .at) (q .len)) (a .args .row) (a .pre .1 e), lt-leb (q .value) 2 (omega arith))
+    rw (e, vlan-stated m (q .key) (q .value) (part (a .args .request .now) (q .at) (q .len)) (a .args .row) (a .pre .1 e), lt-leb (q .value) 2 (omega arith))
 
 pub vlan-with-spec : {M : Type 1} → statement M
 vlan-with-spec =

@@ -8,6 +8,8 @@ use lib.ListN.{length}
 use borrow.Author.Tests.{ltb-true, eq-eqb}
 use Rattle.octets.specs.Parts.{part}
 use Rattle.octets.proofs.BoolLaws.{both}
+use Rattle.names.specs.declared.model.Model.{Model}
+use Rattle.block.specs.Content.{modelOf}
 use Rattle.block.specs.Image.{contentOf}
 use Rattle.block.specs.Lookup.{keysOf, findKey}
 use Rattle.block.specs.Tables.{rowsOf, most}
@@ -21,15 +23,15 @@ use borrow.Author.Needs.{needs}
 use Rattle.set.proofs.write_row.Statement.{statement}
 use Rattle.set.proofs.write_row.Tie as tie
 
--- the octets that the kept binding writes, the change of a column that it is, and the number of ports
+-- the octets that the kept binding writes, the change of a column that it is, and the bridge's model
 abbrev octets : tie.Start → List ℕ
 octets c = part (c .args .request .now) (c .args .q .at) (c .args .q .len)
 
 abbrev column : (c : tie.Start) → ColumnOf (c .args .t)
 column c = columnAt (c .args .t) (c .args .q .place) (c .args .q .value) (octets c)
 
-abbrev bridge : tie.Start → ℕ
-bridge c = contentOf (c .args .block .now) .ports
+abbrev bridge : tie.Start → Model
+bridge c = modelOf (contentOf (c .args .block .now))
 
 -- where a key that is found stands, and one that is not
 found : (c : tie.After-known-told) → let a = c .before .before .before .before .before .before .before .before .before .args in

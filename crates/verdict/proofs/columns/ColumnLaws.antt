@@ -10,6 +10,7 @@ use borrow.Author.Tests.{eqb-true, leb-true, lt-leb, not-true, ne-eqb}
 use Rattle.octets.specs.Parts.{part}
 use Rattle.octets.specs.Ports.{portsTo}
 use Rattle.octets.proofs.BoolLaws.{both, by-eq, by-bool}
+use Rattle.names.specs.declared.model.Model.{Model}
 use Rattle.block.specs.declared.rows.VlanRow.{VlanRow}
 use Rattle.names.specs.Places.{vlanName, vlanRowStatus, staticAllowed, staticState, pairBridgeState}
 use Rattle.answer.specs.Writes.{status}
@@ -131,35 +132,35 @@ misplaced-vlan v true = by-row-status v (λ i. rw i) (λ i. rw i) (λ i. rw i) (
 misplaced-vlan v false = by-row-status v (λ i. rw i) (λ i. rw i) (λ i. rw i) (λ i. rw i) (λ n. rw (n .0, n .1, n .2, n .3))
 
 -- a status that removes leaves no row, one that does not make makes none, and a number that makes a row
-status-drops : (n : ℕ) (t : Table) (k : ℕ) (x : Status t) (o : Option (Row t)) → removes t x ≡ true → statusStep n t k x o ≡ none
-status-drops n vlan k (create s) o h = absurd (false≢true h)
-status-drops n vlan k (state s) o h = absurd (false≢true h)
-status-drops n vlan k destroy o h = refl
-status-drops n static k (keep s) o h = absurd (false≢true h)
-status-drops n static k drop o h = refl
-status-drops n pair k (paired s) o h = absurd (false≢true h)
-status-drops n pair k unpaired o h = refl
+status-drops : (m : Model) (t : Table) (k : ℕ) (x : Status t) (o : Option (Row t)) → removes t x ≡ true → statusStep m t k x o ≡ none
+status-drops m vlan k (create s) o h = absurd (false≢true h)
+status-drops m vlan k (state s) o h = absurd (false≢true h)
+status-drops m vlan k destroy o h = refl
+status-drops m static k (keep s) o h = absurd (false≢true h)
+status-drops m static k drop o h = refl
+status-drops m pair k (paired s) o h = absurd (false≢true h)
+status-drops m pair k unpaired o h = refl
 
-status-none : (n : ℕ) (t : Table) (k : ℕ) (x : Status t) → makes t x ≡ false → statusStep n t k x none ≡ none
-status-none n vlan k (create s) h = absurd (true≢false h)
-status-none n vlan k (state s) h = refl
-status-none n vlan k destroy h = refl
-status-none n static k (keep s) h = absurd (true≢false h)
-status-none n static k drop h = refl
-status-none n pair k (paired s) h = absurd (true≢false h)
-status-none n pair k unpaired h = refl
+status-none : (m : Model) (t : Table) (k : ℕ) (x : Status t) → makes t x ≡ false → statusStep m t k x none ≡ none
+status-none m vlan k (create s) h = absurd (true≢false h)
+status-none m vlan k (state s) h = refl
+status-none m vlan k destroy h = refl
+status-none m static k (keep s) h = absurd (true≢false h)
+status-none m static k drop h = refl
+status-none m pair k (paired s) h = absurd (true≢false h)
+status-none m pair k unpaired h = refl
 
-abbrev pub madeAt : ℕ → (t : Table) → (k v : ℕ) → Row t
-madeAt n vlan k v = madeVlan n k (v - 3)
-madeAt n static k v = record { status = v; allowed = portsTo 64 n }
-madeAt n pair k v = record { number = 0; state = v }
+abbrev pub madeAt : Model → (t : Table) → (k v : ℕ) → Row t
+madeAt m vlan k v = madeVlan m k (v - 3)
+madeAt m static k v = record { status = v; allowed = portsTo 64 (m .ports) }
+madeAt m pair k v = record { number = 0; state = v }
 
-pub status-made : (n : ℕ) (t : Table) (k v : ℕ) → makes t (statusOf t v) ≡ true → statusStep n t k (statusOf t v) none ≡ some (madeAt n t k v)
-status-made n vlan k v h =
+pub status-made : (m : Model) (t : Table) (k v : ℕ) → makes t (statusOf t v) ≡ true → statusStep m t k (statusOf t v) none ≡ some (madeAt m t k v)
+status-made m vlan k v h =
     by-row-status v (λ i. absurd (false≢true (rw i at h))) (λ i. absurd (false≢true (rw i at h))) (λ i. rw i) (λ i. rw i)
     (λ n. absurd (false≢true (rw (n .0, n .1, n .2, n .3) at h)))
-status-made n static k v h = rw (not-true (eqb v 2) (sym (makes-static v) ∙ h))
-status-made n pair k v h = rw (not-true (eqb v 3) (sym (makes-pair v) ∙ h))
+status-made m static k v h = rw (not-true (eqb v 2) (sym (makes-static v) ∙ h))
+status-made m pair k v h = rw (not-true (eqb v 3) (sym (makes-pair v) ∙ h))
 
 -- 4 and 5 make a VLAN row
 pub made-small : (v : ℕ) → makes vlan (statusOf vlan v) ≡ true → (4 ≤ v) × (v ≤ 5)
@@ -168,23 +169,23 @@ made-small v h =
     (λ n. absurd (false≢true (rw (n .0, n .1, n .2, n .3) at h)))
 
 -- the same of the column at place i
-module _ (n : ℕ) (t : Table) (k v : ℕ) (xs : List ℕ) (i : ℕ) where
-  pub column-drops : (o : Option (Row t)) → eqb i (statusPlace t) && removes t (statusOf t v) ≡ true → step n t k (columnAt t i v xs) o ≡ none
+module _ (m : Model) (t : Table) (k v : ℕ) (xs : List ℕ) (i : ℕ) where
+  pub column-drops : (o : Option (Row t)) → eqb i (statusPlace t) && removes t (statusOf t v) ≡ true → step m t k (columnAt t i v xs) o ≡ none
   column-drops o h =
       let p = both (eqb i (statusPlace t)) (removes t (statusOf t v)) h in
-      rw (p .0) (status-drops n t k (statusOf t v) o (p .1))
+      rw (p .0) (status-drops m t k (statusOf t v) o (p .1))
 
-  pub column-makes : eqb i (statusPlace t) && makes t (statusOf t v) ≡ true → step n t k (columnAt t i v xs) none ≡ some (madeAt n t k v)
+  pub column-makes : eqb i (statusPlace t) && makes t (statusOf t v) ≡ true → step m t k (columnAt t i v xs) none ≡ some (madeAt m t k v)
   column-makes h =
       let p = both (eqb i (statusPlace t)) (makes t (statusOf t v)) h in
-      rw (p .0) (status-made n t k v (p .1))
+      rw (p .0) (status-made m t k v (p .1))
 
-  pub column-none : eqb i (statusPlace t) && makes t (statusOf t v) ≡ false → step n t k (columnAt t i v xs) none ≡ none
+  pub column-none : eqb i (statusPlace t) && makes t (statusOf t v) ≡ false → step m t k (columnAt t i v xs) none ≡ none
   column-none h =
       by-bool (eqb i (statusPlace t))
       (λ e.
       let q : makes t (statusOf t v) ≡ false = rw e at h in
-      rw e (status-none n t k (statusOf t v) q))
+      rw e (status-none m t k (statusOf t v) q))
       (λ e. rw e)
 
 -- a VLAN row with another status
@@ -192,15 +193,15 @@ abbrev stated : ℕ → VlanRow → VlanRow
 stated s r = record { status = s; len = r .len; name = r .name; egress = r .egress; forbidden = r .forbidden; untagged = r .untagged }
 
 -- 1 and 2 set the status of a row that is there, 4 and 5 leave it
-pub vlan-stated : (n k v : ℕ) (xs : List ℕ) (r : VlanRow) → removes vlan (statusOf vlan v) ≡ false
-    → step n vlan k (columnAt vlan vlanRowStatus v xs) (some r) ≡ some (cond (leb v 2) (stated v r) r)
-vlan-stated n k v xs r h =
+pub vlan-stated : (m : Model) (k v : ℕ) (xs : List ℕ) (r : VlanRow) → removes vlan (statusOf vlan v) ≡ false
+    → step m vlan k (columnAt vlan vlanRowStatus v xs) (some r) ≡ some (cond (leb v 2) (stated v r) r)
+vlan-stated m k v xs r h =
     by-row-status v (λ i. rw i) (λ i. rw i) (λ i. rw i) (λ i. rw i) (λ n. absurd (true≢false (rw (n .0, n .1, n .2, n .3) at h)))
 
 -- an active row is active no more after 2 and after a number that removes it
-pub loses-is : (n k : ℕ) (r : VlanRow) (v : ℕ)
-    → loses n k (status (statusOf vlan v)) (some r) ≡ (eqb (r .status) 1 && (eqb v 2 || removes vlan (statusOf vlan v)))
-loses-is n k r v =
+pub loses-is : (m : Model) (k : ℕ) (r : VlanRow) (v : ℕ)
+    → loses m k (status (statusOf vlan v)) (some r) ≡ (eqb (r .status) 1 && (eqb v 2 || removes vlan (statusOf vlan v)))
+loses-is m k r v =
     let same : (eqb (r .status) 1 && not (eqb (r .status) 1)) ≡ (eqb (r .status) 1 && false) =
     and-not-self (eqb (r .status) 1) ∙ sym (and-false (eqb (r .status) 1)) in
     by-row-status v (λ i. rw i) (λ i. rw i) (λ i. rw i same) (λ i. rw i same) (λ n. rw (n .0, n .1, n .2, n .3))

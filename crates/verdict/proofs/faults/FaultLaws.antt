@@ -11,6 +11,7 @@ use lib.ListN.{length, take, drop, getD}
 use borrow.Author.Tests.{eq-eqb, ne-eqb, eqb-true}
 use Rattle.octets.proofs.BoolLaws.{by-bool}
 use Rattle.octets.proofs.ListLaws.{left-turn}
+use Rattle.names.specs.declared.model.Model.{Model}
 use Rattle.block.specs.Content.{Content}
 use Rattle.block.specs.Lookup.{lookup}
 use Rattle.names.specs.Places.{pairBridgeState, staticState, vlanName, vlanEgress, vlanForbidden}
@@ -27,28 +28,28 @@ use Rattle.verdict.proofs.PastEnd.{pastEnd}
 use Rattle.verdict.proofs.columns.ColumnLaws.{column-high}
 
 -- the fault of a write to the column at place i
-module _ (n : ℕ) (t : Table) (f : Bool) (ws : List (ℕ × ColumnOf t)) (k i v : ℕ) (xs : List ℕ) (o : Option (Row t)) where
+module _ (m : Model) (t : Table) (f : Bool) (ws : List (ℕ × ColumnOf t)) (k i v : ℕ) (xs : List ℕ) (o : Option (Row t)) where
   pub status-fault : i ≡ statusPlace t
-      → rowFault n t f ws k (columnAt t i v xs) o ≡ statusFault (misplaced t (statusOf t v) (present o) || lacking t (statusOf t v) (present o) (has (λ c. not (isStatus c)) k ws)) (makes t (statusOf t v)) (present o) f
+      → rowFault m t f ws k (columnAt t i v xs) o ≡ statusFault (misplaced t (statusOf t v) (present o) || lacking t (statusOf t v) (present o) (has (λ c. not (isStatus c)) k ws)) (makes t (statusOf t v)) (present o) f
   unfolding rowFault
   status-fault p = rw (p, eq-eqb (statusPlace t) (statusPlace t) refl)
 
-  pub field-fault : (i ≡ statusPlace t → ⊥) → rowFault n t f ws k (columnAt t i v xs) o
-      ≡ fieldFault (present o) (has (onStatus (makes t)) k ws) (has (onStatus (removes t)) k ws) (clashes t (fieldSaid t i v xs) (resulting n t ws k o))
+  pub field-fault : (i ≡ statusPlace t → ⊥) → rowFault m t f ws k (columnAt t i v xs) o
+      ≡ fieldFault (present o) (has (onStatus (makes t)) k ws) (has (onStatus (removes t)) k ws) (clashes t (fieldSaid t i v xs) (resulting m t ws k o))
   unfolding rowFault
   field-fault p = rw (ne-eqb i (statusPlace t) p)
 
 -- only Egress and Forbidden ask about the resulting row
-pub clash-at : (t : Table) (n : ℕ) (c : Content) (m : List Judged) (k i v : ℕ) (xs : List ℕ) → isColumn t i ≡ true
-    → clashes t (fieldSaid t i v xs) (resulting n t (writesTo t m) k (lookup k (rowsOf t c)))
-    ≡ ((eqb i vlanEgress || eqb i vlanForbidden) && clash (resulting n vlan (writesTo vlan m) k (lookup k (c .vlans))))
-clash-at vlan n c m k i v xs h =
+pub clash-at : (t : Table) (d : Model) (c : Content) (m : List Judged) (k i v : ℕ) (xs : List ℕ) → isColumn t i ≡ true
+    → clashes t (fieldSaid t i v xs) (resulting d t (writesTo t m) k (lookup k (rowsOf t c)))
+    ≡ ((eqb i vlanEgress || eqb i vlanForbidden) && clash (resulting d vlan (writesTo vlan m) k (lookup k (c .vlans))))
+clash-at vlan d c m k i v xs h =
     by-bool (eqb i vlanName) (λ e. rw (eqb-true i vlanName e))
     (λ e. rw e (by-bool (eqb i vlanEgress) (λ f. rw f) (λ f. rw f (by-bool (eqb i vlanForbidden) (λ g. rw g) (λ g. rw g)))))
-clash-at static n c m k i v xs h =
+clash-at static d c m k i v xs h =
     let high : i ≤ staticState = column-high static i h in
     rw (ne-eqb i vlanEgress (λ e. omega arith), ne-eqb i vlanForbidden (λ e. omega arith))
-clash-at pair n c m k i v xs h =
+clash-at pair d c m k i v xs h =
     let high : i ≤ pairBridgeState = column-high pair i h in
     rw (ne-eqb i vlanEgress (λ e. omega arith), ne-eqb i vlanForbidden (λ e. omega arith))
 

@@ -11,6 +11,7 @@ use borrow.Author.Tests.{leb-true}
 use Rattle.octets.specs.Ports.{disjoint}
 use Rattle.octets.proofs.BoolLaws.{both, by-eq, by-bool}
 use Rattle.octets.proofs.ListLaws.{left-turn, left-none}
+use Rattle.names.specs.declared.model.Model.{Model}
 use Rattle.block.specs.declared.rows.VlanRow.{VlanRow}
 use Rattle.names.specs.Places.{vlanName, vlanEgress, vlanForbidden, vlanUntagged, vlanRowStatus}
 use Rattle.answer.specs.Writes.{status, field, isStatus, those, ordered, playRow}
@@ -34,38 +35,38 @@ by-vlan-column i h a b c d e =
     by-eq i vlanName a (λ p. by-eq i vlanEgress b (λ q. by-eq i vlanForbidden c (λ r. by-eq i vlanUntagged d (λ u. e (omega arith)))))
 
 -- the row k after one write, where it passes a test
-abbrev pub rowAfter : ℕ → (ColumnOf vlan → Bool) → ℕ → Option (ℕ × ColumnOf vlan) → Option VlanRow → Option VlanRow
-rowAfter n p k none o = o
-rowAfter n p k (some w) o = cond (p (w .1)) (cond (eqb k (w .0)) (step n vlan (w .0) (w .1) o) o) o
+abbrev pub rowAfter : Model → (ColumnOf vlan → Bool) → ℕ → Option (ℕ × ColumnOf vlan) → Option VlanRow → Option VlanRow
+rowAfter m p k none o = o
+rowAfter m p k (some w) o = cond (p (w .1)) (cond (eqb k (w .0)) (step m vlan (w .0) (w .1) o) o) o
 
-module _ (n : ℕ) (p : ColumnOf vlan → Bool) (k : ℕ) (ws : List (ℕ × ColumnOf vlan)) where
+module _ (m : Model) (p : ColumnOf vlan → Bool) (k : ℕ) (ws : List (ℕ × ColumnOf vlan)) where
   row-turn : (w : Option (ℕ × ColumnOf vlan)) (o : Option VlanRow)
-      → playRow (step n vlan) k (those p (also w ws)) o ≡ playRow (step n vlan) k (those p ws) (rowAfter n p k w o)
+      → playRow (step m vlan) k (those p (also w ws)) o ≡ playRow (step m vlan) k (those p ws) (rowAfter m p k w o)
   unfolding those playRow
   row-turn none o = refl
   row-turn (some w) o = by-bool (p (w .1)) (λ e. rw e) (λ e. rw e)
 
-row-append : (n k : ℕ) (a b : List (ℕ × ColumnOf vlan)) (o : Option VlanRow)
-    → playRow (step n vlan) k (a ++ b) o ≡ playRow (step n vlan) k b (playRow (step n vlan) k a o)
+row-append : (m : Model) (k : ℕ) (a b : List (ℕ × ColumnOf vlan)) (o : Option VlanRow)
+    → playRow (step m vlan) k (a ++ b) o ≡ playRow (step m vlan) k b (playRow (step m vlan) k a o)
 unfolding playRow
-row-append n k [] b o = refl
-row-append n k (w ∷ a) b o = row-append n k a b (cond (eqb k (w .0)) (step n vlan (w .0) (w .1) o) o)
+row-append m k [] b o = refl
+row-append m k (w ∷ a) b o = row-append m k a b (cond (eqb k (w .0)) (step m vlan (w .0) (w .1) o) o)
 
 -- a status kept binding of the row changes it as its number says
-pub status-row : (n : ℕ) (s : List ℕ) (k : ℕ) (q : Kept) (o : Option VlanRow) → rowAfter n isStatus k (rowWrite vlan (meant s q)) o
-    ≡ cond (isStatusOf vlan q && eqb k (q .key)) (statusStep n vlan (q .key) (statusOf vlan (q .value)) o) o
+pub status-row : (m : Model) (s : List ℕ) (k : ℕ) (q : Kept) (o : Option VlanRow) → rowAfter m isStatus k (rowWrite vlan (meant s q)) o
+    ≡ cond (isStatusOf vlan q && eqb k (q .key)) (statusStep m vlan (q .key) (statusOf vlan (q .value)) o) o
 unfolding those playRow
-status-row n s k q o =
-    sym (row-turn n isStatus k [] (rowWrite vlan (meant s q)) o)
-    ∙ ap (λ ws. playRow (step n vlan) k ws o) (status-turn vlan s q [])
+status-row m s k q o =
+    sym (row-turn m isStatus k [] (rowWrite vlan (meant s q)) o)
+    ∙ ap (λ ws. playRow (step m vlan) k ws o) (status-turn vlan s q [])
     ∙ by-bool (isStatusOf vlan q) (λ e. rw e) (λ e. rw e)
 
 -- what a number in RowStatus makes of Egress and Forbidden
-pub status-sets : (n k v : ℕ) (o : Option VlanRow) → setsOf (statusStep n vlan k (statusOf vlan v) o)
+pub status-sets : (m : Model) (k v : ℕ) (o : Option VlanRow) → setsOf (statusStep m vlan k (statusOf vlan v) o)
     ≡ cond (removes vlan (statusOf vlan v)) (setsOf none)
     (record { there = setsOf o .there || makes vlan (statusOf vlan v); egress = setsOf o .egress; forbidden = setsOf o .forbidden })
-status-sets n k v none = by-row-status v (λ i. rw i) (λ i. rw i) (λ i. rw i) (λ i. rw i) (λ n. rw (n .0, n .1, n .2, n .3))
-status-sets n k v (some r) = by-row-status v (λ i. rw i) (λ i. rw i) (λ i. rw i) (λ i. rw i) (λ n. rw (n .0, n .1, n .2, n .3))
+status-sets m k v none = by-row-status v (λ i. rw i) (λ i. rw i) (λ i. rw i) (λ i. rw i) (λ n. rw (n .0, n .1, n .2, n .3))
+status-sets m k v (some r) = by-row-status v (λ i. rw i) (λ i. rw i) (λ i. rw i) (λ i. rw i) (λ n. rw (n .0, n .1, n .2, n .3))
 
 -- Egress and Forbidden after a kept binding of another column
 abbrev pub withField : ℕ → Kept → Sets → Sets
@@ -77,18 +78,18 @@ withField k q x =
     }
 
 -- an absent row stays absent
-field-absent : (n k : ℕ) (w : Option (ℕ × ColumnOf vlan)) → rowAfter n (λ c. not (isStatus c)) k w none ≡ none
-field-absent n k none = refl
-field-absent n k (some w) = go (w .1)
+field-absent : (m : Model) (k : ℕ) (w : Option (ℕ × ColumnOf vlan)) → rowAfter m (λ c. not (isStatus c)) k w none ≡ none
+field-absent m k none = refl
+field-absent m k (some w) = go (w .1)
   where
-    go : (c : ColumnOf vlan) → rowAfter n (λ c. not (isStatus c)) k (some (w .0, c)) none ≡ none
+    go : (c : ColumnOf vlan) → rowAfter m (λ c. not (isStatus c)) k (some (w .0, c)) none ≡ none
     go (status x) = refl
     go (field f) = by-bool (eqb k (w .0)) (λ e. rw e) (λ e. rw e)
 
-pub field-row : (n : ℕ) (s : List ℕ) (k : ℕ) (q : Kept) (o : Option VlanRow)
-    → setsOf (rowAfter n (λ c. not (isStatus c)) k (rowWrite vlan (meant s q)) o) ≡ withField k q (setsOf o)
-field-row n s k q none = rw (field-absent n k (rowWrite vlan (meant s q))) (by-bool (eqb (q .fault) 0) (λ e. rw e) (λ e. rw e))
-field-row n s k q (some r) =
+pub field-row : (m : Model) (s : List ℕ) (k : ℕ) (q : Kept) (o : Option VlanRow)
+    → setsOf (rowAfter m (λ c. not (isStatus c)) k (rowWrite vlan (meant s q)) o) ≡ withField k q (setsOf o)
+field-row m s k q none = rw (field-absent m k (rowWrite vlan (meant s q))) (by-bool (eqb (q .fault) 0) (λ e. rw e) (λ e. rw e))
+field-row m s k q (some r) =
     rw (write-of vlan s q)
     (by-bool (eqb (q .fault) 0)
     (λ e. rw e
@@ -104,31 +105,31 @@ field-row n s k q (some r) =
     (λ e. rw e))
 
 -- what a loop over kept bindings has made of the row k: with the kept bindings left, it comes to the row at the end
-pub record Reached (n : ℕ) (p : ColumnOf vlan → Bool) (s : List ℕ) (k : ℕ) (qs : List Kept) (x : Sets) (end : Option VlanRow) : Type 0 where
+pub record Reached (m : Model) (p : ColumnOf vlan → Bool) (s : List ℕ) (k : ℕ) (qs : List Kept) (x : Sets) (end : Option VlanRow) : Type 0 where
   pub row : Option VlanRow
   pub sets : x ≡ setsOf row
-  pub rest : playRow (step n vlan) k (those p (writesTo vlan (map (meant s) qs))) row ≡ end
+  pub rest : playRow (step m vlan) k (those p (writesTo vlan (map (meant s) qs))) row ≡ end
 
-module _ (n : ℕ) (p : ColumnOf vlan → Bool) (s : List ℕ) (k : ℕ) where
+module _ (m : Model) (p : ColumnOf vlan → Bool) (s : List ℕ) (k : ℕ) where
   pub reached-none : (qs : List Kept) (x : Sets) (o : Option VlanRow) → x ≡ setsOf o
-      → Reached n p s k qs x (playRow (step n vlan) k (those p (writesTo vlan (map (meant s) qs))) o)
+      → Reached m p s k qs x (playRow (step m vlan) k (those p (writesTo vlan (map (meant s) qs))) o)
   reached-none qs x o e = record { row = o; sets = e; rest = refl }
 
   pub reached-more : (qs : List Kept) (count i : ℕ) → i < count → count ≤ length qs → (x y : Sets) (end : Option VlanRow)
-      → ((o : Option VlanRow) → x ≡ setsOf o → y ≡ setsOf (rowAfter n p k (rowWrite vlan (meant s (getD qs i pastEnd))) o))
-      → Reached n p s k (drop i (take count qs)) x end → Reached n p s k (drop (i + 1) (take count qs)) y end
+      → ((o : Option VlanRow) → x ≡ setsOf o → y ≡ setsOf (rowAfter m p k (rowWrite vlan (meant s (getD qs i pastEnd))) o))
+      → Reached m p s k (drop i (take count qs)) x end → Reached m p s k (drop (i + 1) (take count qs)) y end
   unfolding gather
   reached-more qs count i h l x y end f r =
       let q : Kept = getD qs i pastEnd in
       let rest : List Kept = drop (i + 1) (take count qs) in
-      let all : playRow (step n vlan) k (those p (writesTo vlan (map (meant s) (q ∷ rest)))) (r .row) ≡ end = rw (left-turn pastEnd qs count i h l) at (r .rest) in
+      let all : playRow (step m vlan) k (those p (writesTo vlan (map (meant s) (q ∷ rest)))) (r .row) ≡ end = rw (left-turn pastEnd qs count i h l) at (r .rest) in
       record {
-        row = rowAfter n p k (rowWrite vlan (meant s q)) (r .row);
+        row = rowAfter m p k (rowWrite vlan (meant s q)) (r .row);
         sets = f (r .row) (r .sets);
-        rest = sym (row-turn n p k (writesTo vlan (map (meant s) rest)) (rowWrite vlan (meant s q)) (r .row)) ∙ all;
+        rest = sym (row-turn m p k (writesTo vlan (map (meant s) rest)) (rowWrite vlan (meant s q)) (r .row)) ∙ all;
       }
 
-  pub reached-all : (qs : List Kept) (count i : ℕ) → count ≤ i → (x : Sets) (end : Option VlanRow) → Reached n p s k (drop i (take count qs)) x end → x ≡ setsOf end
+  pub reached-all : (qs : List Kept) (count i : ℕ) → count ≤ i → (x : Sets) (end : Option VlanRow) → Reached m p s k (drop i (take count qs)) x end → x ≡ setsOf end
   unfolding gather those playRow
   reached-all qs count i h x end r =
       let none-left : r .row ≡ end = rw (left-none qs count i h) at (r .rest) in
@@ -139,11 +140,11 @@ clash-sets : (o : Option VlanRow) → clash o ≡ (setsOf o .there && not (disjo
 clash-sets none = refl
 clash-sets (some r) = refl
 
-pub shares-sets : (n : ℕ) (ws : List (ℕ × ColumnOf vlan)) (k : ℕ) (o : Option VlanRow) (x : Sets)
-    → x ≡ setsOf (playRow (step n vlan) k (those (λ c. not (isStatus c)) ws) (playRow (step n vlan) k (those isStatus ws) o))
-    → clash (resulting n vlan ws k o) ≡ (x .there && not (disjoint (x .egress) (x .forbidden)))
+pub shares-sets : (m : Model) (ws : List (ℕ × ColumnOf vlan)) (k : ℕ) (o : Option VlanRow) (x : Sets)
+    → x ≡ setsOf (playRow (step m vlan) k (those (λ c. not (isStatus c)) ws) (playRow (step m vlan) k (those isStatus ws) o))
+    → clash (resulting m vlan ws k o) ≡ (x .there && not (disjoint (x .egress) (x .forbidden)))
 unfolding ordered
-shares-sets n ws k o x e =
-    ap clash (row-append n k (those isStatus ws) (those (λ c. not (isStatus c)) ws) o)
-    ∙ clash-sets (playRow (step n vlan) k (those (λ c. not (isStatus c)) ws) (playRow (step n vlan) k (those isStatus ws) o))
+shares-sets m ws k o x e =
+    ap clash (row-append m k (those isStatus ws) (those (λ c. not (isStatus c)) ws) o)
+    ∙ clash-sets (playRow (step m vlan) k (those (λ c. not (isStatus c)) ws) (playRow (step m vlan) k (those isStatus ws) o))
     ∙ rw e

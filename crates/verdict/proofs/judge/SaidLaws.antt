@@ -72,7 +72,7 @@ Means n i xs q = contentSaidOf i xs q ≡ unless (lengthOk (objectAt i) xs) 8 (v
 -- the port sets and the VLAN name, each at its place
 module _ (n : Model) (xs : List ℕ) where
   ports-say : (t : Table) (i : ℕ) (c : ColumnOf t) → ((k : ℕ) → writtenAs i k (setOf xs) xs ≡ row t k c)
-      → contentSaidOf i xs (portsSaid (n .ports) xs) ≡ unless (leb (length xs) 8) 8 (saidTo t (cond (onlyTo 64 (n .ports) (setOf xs)) (some c) none))
+      → contentSaidOf i xs (portsSaid n xs) ≡ unless (leb (length xs) 8) 8 (saidTo t (cond (onlyTo 64 (n .ports) (setOf xs)) (some c) none))
   ports-say t i c e = go (leb (length xs) 8) (onlyTo 64 (n .ports) (setOf xs))
     where
       go : (a b : Bool) → contentSaidOf i xs (cond a (cond b (record { fault = 0; value = setOf xs }) (wrongly 10)) (wrongly 8))
@@ -81,19 +81,19 @@ module _ (n : Model) (xs : List ℕ) where
       go true false = refl
       go false b = refl
 
-  allowed-says : Means n staticAllowed xs (portsSaid (n .ports) xs)
+  allowed-says : Means n staticAllowed xs (portsSaid n xs)
   unfolding objects
   allowed-says = ports-say static staticAllowed (field (allowed (setOf xs))) (λ k. refl)
 
-  egress-says : Means n vlanEgress xs (portsSaid (n .ports) xs)
+  egress-says : Means n vlanEgress xs (portsSaid n xs)
   unfolding objects
   egress-says = ports-say vlan vlanEgress (field (egress (setOf xs))) (λ k. refl)
 
-  forbidden-says : Means n vlanForbidden xs (portsSaid (n .ports) xs)
+  forbidden-says : Means n vlanForbidden xs (portsSaid n xs)
   unfolding objects
   forbidden-says = ports-say vlan vlanForbidden (field (forbidden (setOf xs))) (λ k. refl)
 
-  untagged-says : Means n vlanUntagged xs (portsSaid (n .ports) xs)
+  untagged-says : Means n vlanUntagged xs (portsSaid n xs)
   unfolding objects
   untagged-says = ports-say vlan vlanUntagged (field (untagged (setOf xs))) (λ k. refl)
 
@@ -208,7 +208,7 @@ module _ (n : Model) (i : ℕ) (xs : List ℕ) (writable : isWritable (objectAt 
 
 -- the same at any place for the type
 module _ (n : Model) (xs : List ℕ) where
-  ports-mean : (i : ℕ) → placeFor Ports i ≡ true → Means n i xs (portsSaid (n .ports) xs)
+  ports-mean : (i : ℕ) → placeFor Ports i ≡ true → Means n i xs (portsSaid n xs)
   ports-mean i p =
       by-bool (eqb i staticAllowed) (λ e. rw (eqb-true i staticAllowed e) (allowed-says n xs))
       (λ a. by-bool (eqb i vlanEgress) (λ e. rw (eqb-true i vlanEgress e) (egress-says n xs))
@@ -287,8 +287,8 @@ module _ (n : Model) (i tag : ℕ) (xs : List ℕ) where
             let l : leb (length xs) 32 ≡ true = le-leb (length xs) 32 (rw p at h) in
             read-on (wrongly 0) (rw p (name-says n xs l))
 
-        pub ports-said : objectAt i .syntax ≡ Ports → contentSaidOf i xs (portsSaid (n .ports) xs) ≡ contentSaid n i tag xs
-        ports-said y = read-on (portsSaid (n .ports) xs) (ports-mean n xs i (in-place Ports y))
+        pub ports-said : objectAt i .syntax ≡ Ports → contentSaidOf i xs (portsSaid n xs) ≡ contentSaid n i tag xs
+        ports-said y = read-on (portsSaid n xs) (ports-mean n xs i (in-place Ports y))
 
         pub number-said : eqb tag 0x22 ≡ false → contentSaidOf i xs (numberSaid (n .edition) i (beAt xs 0 4)) ≡ contentSaid n i tag xs
         number-said t =

@@ -8,6 +8,7 @@ use Prim.Native.Nat.{ℕ, _≤_, _-_}
 use native.Mathlib.Omega.{arith}
 use lib.ListN.{length, take, drop, getD}
 use borrow.Author.Needs.{needs}
+use Rattle.names.specs.declared.model.Model.{Model}
 use Rattle.block.specs.declared.rows.VlanRow.{VlanRow}
 use Rattle.answer.specs.Writes.{isStatus, those, playRow}
 use Rattle.block.specs.declared.tables.Table.the-variants.{Vlan as vlan}
@@ -25,15 +26,15 @@ abbrev Inv-loop : tie.InvT-loop
 Inv-loop sets count key kept egress₀ forbidden₀ i₀ egress forbidden i =
     (i ≤ count)
     × (length kept ≡ 16)
-    × ((n : ℕ) (s : List ℕ) (o : Option VlanRow) → sets ≡ setsOf o
-    → Reached n (λ c. not (isStatus c)) s key (drop i (take count kept)) (record { there = sets .there; egress = egress; forbidden = forbidden })
-    (playRow (step n vlan) key (those (λ c. not (isStatus c)) (writesTo vlan (meantBy s kept count))) o))
+    × ((m : Model) (s : List ℕ) (o : Option VlanRow) → sets ≡ setsOf o
+    → Reached m (λ c. not (isStatus c)) s key (drop i (take count kept)) (record { there = sets .there; egress = egress; forbidden = forbidden })
+    (playRow (step m vlan) key (those (λ c. not (isStatus c)) (writesTo vlan (meantBy s kept count))) o))
 
 abbrev μ-loop : tie.MeasureT-loop
 μ-loop sets count key kept egress₀ forbidden₀ i₀ egress forbidden i = count - i
 
 loop-holds : tie.Need-loop-holds Inv-loop μ-loop
-loop-holds c = (omega arith, search needs, λ n s o e. reached-none n (λ x. not (isStatus x)) s _ _ _ o e)
+loop-holds c = (omega arith, search needs, λ m s o e. reached-none m (λ x. not (isStatus x)) s _ _ _ o e)
 
 mul-q : tie.Need-mul-q Inv-loop μ-loop
 mul-q c = omega arith
@@ -65,14 +66,14 @@ loop-again c =
     ⊎-elim (λ w. rw (w .0 .taken) (w .1)) (λ w. rw (w .0 .left) (w .1)) (c .if2 .came) in (
       omega arith,
       l .inv .1,
-      λ n s o e.
-          reached-more n (λ y. not (isStatus y)) s (a .key) (a .t2) (a .count) (l .i) (omega arith) (omega arith) x _ _
-          (λ p f. rw (egress, forbidden) (ap (withField (a .key) q) f ∙ sym (field-row n s (a .key) q p)))
-          (l .inv .2 n s o e),
+      λ m s o e.
+          reached-more m (λ y. not (isStatus y)) s (a .key) (a .t2) (a .count) (l .i) (omega arith) (omega arith) x _ _
+          (λ p f. rw (egress, forbidden) (ap (withField (a .key) q) f ∙ sym (field-row m s (a .key) q p)))
+          (l .inv .2 m s o e),
     )
 
 returns : tie.Need-returns Inv-loop μ-loop
-returns c = λ n s o e. reached-all n (λ x. not (isStatus x)) s _ _ (c .before .before .args .count) (c .before .loop .i) (omega arith) _ _ (c .before .loop .inv .2 n s o e)
+returns c = λ m s o e. reached-all m (λ x. not (isStatus x)) s _ _ (c .before .before .args .count) (c .before .loop .i) (omega arith) _ _ (c .before .loop .inv .2 m s o e)
 
 pub after-fields-spec : {M : Type 1} → statement M
 after-fields-spec =

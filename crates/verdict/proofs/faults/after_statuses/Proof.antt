@@ -7,6 +7,7 @@ use Prim.Native.Nat.{ℕ, _≤_, _-_}
 use native.Mathlib.Omega.{arith}
 use lib.ListN.{length, take, drop, getD}
 use borrow.Author.Needs.{needs}
+use Rattle.names.specs.declared.model.Model.{Model}
 use Rattle.block.specs.declared.rows.VlanRow.{VlanRow}
 use Rattle.answer.specs.Writes.{isStatus, those, playRow}
 use Rattle.block.specs.declared.tables.Table.the-variants.{Vlan as vlan}
@@ -22,14 +23,14 @@ abbrev Inv-loop : tie.InvT-loop
 Inv-loop count key kept after₀ i₀ after i =
     (i ≤ count)
     × (length kept ≡ 16)
-    × ((n : ℕ) (s : List ℕ) (o : Option VlanRow) → after₀ ≡ setsOf o
-    → Reached n isStatus s key (drop i (take count kept)) after (playRow (step n vlan) key (those isStatus (writesTo vlan (meantBy s kept count))) o))
+    × ((m : Model) (s : List ℕ) (o : Option VlanRow) → after₀ ≡ setsOf o
+    → Reached m isStatus s key (drop i (take count kept)) after (playRow (step m vlan) key (those isStatus (writesTo vlan (meantBy s kept count))) o))
 
 abbrev μ-loop : tie.MeasureT-loop
 μ-loop count key kept after₀ i₀ after i = count - i
 
 loop-holds : tie.Need-loop-holds Inv-loop μ-loop
-loop-holds c = (omega arith, search needs, λ n s o e. reached-none n isStatus s _ _ _ o e)
+loop-holds c = (omega arith, search needs, λ m s o e. reached-none m isStatus s _ _ _ o e)
 
 mul-q : tie.Need-mul-q Inv-loop μ-loop
 mul-q c = omega arith
@@ -55,15 +56,15 @@ loop-again c =
     let a = c .before .before .before .before .before .before .args in (
       omega arith,
       l .inv .1,
-      λ n s o e.
-          reached-more n isStatus s (a .key) (a .t2) (a .count) (l .i) (omega arith) (omega arith) (l .after) (c .if1 .after) _
-          (λ p f. rw (status-row n s (a .key) (getD (a .t2) (l .i) pastEnd) p, ← c .before .before .is-status-of .ensures)
-          (⊎-elim (λ w. rw (w .0 .taken) (w .2 ∙ w .1 .ensures n _ p f)) (λ w. rw (w .0 .left) (w .1 ∙ f)) (c .if1 .came)))
-          (l .inv .2 n s o e),
+      λ m s o e.
+          reached-more m isStatus s (a .key) (a .t2) (a .count) (l .i) (omega arith) (omega arith) (l .after) (c .if1 .after) _
+          (λ p f. rw (status-row m s (a .key) (getD (a .t2) (l .i) pastEnd) p, ← c .before .before .is-status-of .ensures)
+          (⊎-elim (λ w. rw (w .0 .taken) (w .2 ∙ w .1 .ensures m _ p f)) (λ w. rw (w .0 .left) (w .1 ∙ f)) (c .if1 .came)))
+          (l .inv .2 m s o e),
     )
 
 returns : tie.Need-returns Inv-loop μ-loop
-returns c = λ n s o e. reached-all n isStatus s _ _ (c .before .before .args .count) (c .before .loop .i) (omega arith) _ _ (c .before .loop .inv .2 n s o e)
+returns c = λ m s o e. reached-all m isStatus s _ _ (c .before .before .args .count) (c .before .loop .i) (omega arith) _ _ (c .before .loop .inv .2 m s o e)
 
 pub after-statuses-spec : {M : Type 1} → statement M
 after-statuses-spec =

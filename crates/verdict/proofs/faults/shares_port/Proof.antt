@@ -19,10 +19,10 @@ are-disjoint-requires c κs = search needs
 
 returns : tie.Need-returns
 returns c =
-    λ n s.
+    λ m s.
     let before = c .before .before .before .before .sets-before .ensures in
-    let made = c .before .before .before .after-statuses .ensures n s _ before in
-    rw (c .before .are-disjoint .ensures) (sym (shares-sets n _ _ _ _ (c .before .before .after-fields .ensures n s _ made)))
+    let made = c .before .before .before .after-statuses .ensures m s _ before in
+    rw (c .before .are-disjoint .ensures) (sym (shares-sets m _ _ _ _ (c .before .before .after-fields .ensures m s _ made)))
 
 pub shares-port-spec : {M : Type 1} → statement M
 shares-port-spec =

@@ -8,17 +8,17 @@ removes-row-requires : tie.Need-removes-row-requires
 removes-row-requires c κs = search needs
 
 returns : tie.Need-returns
-returns c = λ n k o e. rw (status-sets n k (c .before .before .args .v) o, ← c .before .removes-row .ensures, c .if1 .taken)
+returns c = λ m k o e. rw (status-sets m k (c .before .before .args .v) o, ← c .before .removes-row .ensures, c .if1 .taken)
 
 makes-row-requires : tie.Need-makes-row-requires
 makes-row-requires c κs = search needs
 
 returns-2 : tie.Need-returns-2
 returns-2 c =
-    λ n k o e.
+    λ m k o e.
     rw (
       e,
-      status-sets n k (c .before .before .before .before .args .v) o,
+      status-sets m k (c .before .before .before .before .args .v) o,
       ← c .before .before .before .removes-row .ensures,
       c .before .before .if1 .left,
       c .before .makes-row .ensures,
