@@ -43,12 +43,13 @@ static size_t add_file(struct submission *submission, const char *file)
     return 0;
 }
 
-/* The name of a listed file, from this folder: it is listed from the manifest's. */
+/* The name of a listed file, from this folder: it is listed from the manifest's, or by its whole path. */
 static char *listed_name(const char *manifest, struct text name)
 {
     const char *slash = strrchr(manifest, '/');
-    size_t folder = slash == NULL ? 0 : (size_t)(slash - manifest) + 1;
     size_t length = (size_t)(name.end - name.at);
+    bool whole_path = length > 0 && name.at[0] == '/';
+    size_t folder = slash == NULL || whole_path ? 0 : (size_t)(slash - manifest) + 1;
     char *whole = malloc(folder + length + 1);
 
     if (whole != NULL) {

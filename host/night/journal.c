@@ -121,6 +121,18 @@ static bool hold(struct journal *journal, struct complaint *why)
     return true;
 }
 
+/* Whether the name is still that of the open file, and the journal is not made yet. */
+static bool is_own(const struct journal *journal, const char *name)
+{
+    struct stat held;
+    struct stat named;
+
+    return fstat(journal->out, &held) == 0 && stat(name, &named) == 0 && held.st_dev == named.st_dev &&
+           held.st_ino == named.st_ino && access(journal->file, F_OK) != 0;
+}
+
+/* Only who holds the file beside the journal empties it and gives it the journal's name, so that of several nights that
+ * make one journal at a time one does. */
 bool journal_create(struct journal *journal, const char *file, struct complaint *why)
 {
     char name[NAME_MAX_LENGTH];
@@ -130,11 +142,17 @@ bool journal_create(struct journal *journal, const char *file, struct complaint 
         return complain(why, "the journal's name is too long");
     }
     beside(journal, name);
-    journal->out = open(name, O_WRONLY | O_CREAT | O_TRUNC | O_APPEND, 0644);
+    journal->out = open(name, O_WRONLY | O_CREAT | O_APPEND, 0644);
     if (journal->out < 0) {
         return complain(why, "%s cannot be written: %s", name, strerror(errno));
     }
-    return hold(journal, why);
+    if (!hold(journal, why)) {
+        return false;
+    }
+    if (!is_own(journal, name)) {
+        return complain(why, "%s was made by another night", file);
+    }
+    return ftruncate(journal->out, 0) == 0 || complain(why, "%s cannot be written: %s", name, strerror(errno));
 }
 
 /* The folder's entry of the journal is on the disk after this. */
