@@ -58,12 +58,12 @@ starts m pair k (bridgeNumber x) (paired s) r e = ap (shows m pair (field (bridg
 starts m pair k f unpaired r e = absurd (Option·none-ne-some r e)
 
 -- a row of a valid content has an index that the bridge can have, and its table is one that the device has
-can-row : (t : Table) (c : Content) (k : ℕ) → valid c ≡ true → present (lookup k (rowsOf t c)) ≡ true → canHave (c .ports) (shapeOf t) (index (shapeOf t) k) ≡ true
+can-row : (t : Table) (c : Content) (k : ℕ) → valid c ≡ true → present (lookup k (rowsOf t c)) ≡ true → canHave (modelOf c) (shapeOf t) (index (shapeOf t) k) ≡ true
 can-row t c k ok p = go (lookup k (rowsOf t c)) refl p
   where
-    go : (o : Option (Row t)) → lookup k (rowsOf t c) ≡ o → present o ≡ true → canHave (c .ports) (shapeOf t) (index (shapeOf t) k) ≡ true
+    go : (o : Option (Row t)) → lookup k (rowsOf t c) ≡ o → present o ≡ true → canHave (modelOf c) (shapeOf t) (index (shapeOf t) k) ≡ true
     go none e q = absurd (false≢true q)
-    go (some r) e q = rowsOk-lookup (c .ports) (shapeOf t) (testOf t (c .ports)) 0 (rowsOf t c) k r (valid-rows c ok t) e .0
+    go (some r) e q = rowsOk-lookup (modelOf c) (shapeOf t) (testOf t (modelOf c)) 0 (rowsOf t c) k r (valid-rows c ok t) e .0
 
 some-row : {R : Type 0} (k : ℕ) (es : List (ℕ × R)) → present (lookup k es) ≡ true → 0 < length es
 unfolding lookup

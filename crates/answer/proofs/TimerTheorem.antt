@@ -41,7 +41,7 @@ timer-syntax = by-timer (λ t. tagOf (objectAt t .syntax) ≡ 0x21) refl refl re
 -- a get of a timer gives its cell, on a device that has timers
 pub timer-got : (c : Content) (t : ℕ) → isTimer t ≡ true → has (c .device) (objectAt t) ≡ true → get c (timerName t) ≡ integer (timerIn (c .cells) t)
 timer-got c t e own =
-    cell-got c t 0 (timer-has (c .ports) t e) own ∙ ap (λ (tag : ℕ). (tag, beOctets 4 (timerIn (c .cells) t))) (timer-syntax t e)
+    cell-got c t 0 (timer-has (modelOf c) t e) own ∙ ap (λ (tag : ℕ). (tag, beOctets 4 (timerIn (c .cells) t))) (timer-syntax t e)
 
 -- a timer that no binding names is left as it was
 pub timer-left : (c : Content) (bs : List Asked) → c .ports ≤ 64 → (t : ℕ) → isTimer t ≡ true → All (λ b. b .name ≡ timerName t → ⊥) bs
@@ -51,7 +51,7 @@ timer-left c bs few t e h =
     let same : has (d .device) (objectAt t) ≡ has (c .device) (objectAt t) = ap (λ (x : ℕ). has x (objectAt t)) (device-after c (judged (modelOf c) bs)) in
     by-bool (has (c .device) (objectAt t))
     (λ own. timer-got d t e (same ∙ own)
-    ∙ ap integer (cells-after c (judged (modelOf c) bs) (cellOf t 0) (judged-no-cell (modelOf c) few t 0 (timer-has (c .ports) t e) bs h))
+    ∙ ap integer (cells-after c (judged (modelOf c) bs) (cellOf t 0) (judged-no-cell (modelOf c) few t 0 (timer-has (modelOf c) t e) bs h))
     ∙ sym (timer-got c t e own))
     (λ own. get-foreign d t 0 (timer-place t e .0) (same ∙ own) ∙ sym (get-foreign c t 0 (timer-place t e .0) own))
 
@@ -63,7 +63,7 @@ timer-high = by-timer (λ t. objectAt t .high < 256 ^ 4) (lit≤ tt) (lit≤ tt)
 timer-number : (c : Content) → valid c ≡ true → (t : ℕ) → isTimer t ≡ true → has (c .device) (objectAt t) ≡ true → timerGot c t ≡ timerIn (c .cells) t
 timer-number c ok t e own =
     let v : ℕ = timerIn (c .cells) t in
-    let r = takes-range (c .edition) (objectAt t) v (cells-in c ok t 0 (timer-has (c .ports) t e) own) in
+    let r = takes-range (c .edition) (objectAt t) v (cells-in c ok t 0 (timer-has (modelOf c) t e) own) in
     let few : v ≤ objectAt t .high = leb-true v (objectAt t .high) (both (leb (objectAt t .low) v) (leb v (objectAt t .high)) r .1) in
     ap (λ (x : Value). beAt (x .1) 0 4) (timer-got c t e own) ∙ beAt-beOctets 4 v (omega (arith, few, timer-high t e))
 

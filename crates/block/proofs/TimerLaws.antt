@@ -7,6 +7,7 @@ use lib.Dec.{eqb, lit≤}
 use borrow.Author.Tests.{eqb-true, eqb-false, eq-eqb}
 use Rattle.names.specs.Table.{objects, objectCount}
 use Rattle.names.specs.Places.{bridgeMaxAge, bridgeHelloTime, bridgeForwardDelay, isTimer}
+use Rattle.names.specs.declared.model.Model.{Model}
 use Rattle.names.proofs.IndexLaws.{can-scalar}
 use Rattle.block.specs.Layout.{manyCells}
 use Rattle.block.specs.Cells.{cellsIn, cellOf, timerIn}
@@ -34,38 +35,38 @@ unfolding objects cellsIn
 timer-place = by-timer (λ t. (t < objectCount) × (cellOf t 0 < manyCells)) (lit≤ tt, lit≤ tt) (lit≤ tt, lit≤ tt) (lit≤ tt, lit≤ tt)
 
 -- its instance with the key 0 has that cell, on every bridge
-pub timer-has : (n t : ℕ) → isTimer t ≡ true → HasCell n t 0
+pub timer-has : (m : Model) (t : ℕ) → isTimer t ≡ true → HasCell m t 0
 unfolding objects
-timer-has n =
-    by-timer (λ t. HasCell n t 0)
-    (record { cells = lit≤ tt; possible = can-scalar n 0 })
-    (record { cells = lit≤ tt; possible = can-scalar n 0 })
-    (record { cells = lit≤ tt; possible = can-scalar n 0 })
+timer-has m =
+    by-timer (λ t. HasCell m t 0)
+    (record { cells = lit≤ tt; possible = can-scalar m 0 })
+    (record { cells = lit≤ tt; possible = can-scalar m 0 })
+    (record { cells = lit≤ tt; possible = can-scalar m 0 })
 
 -- and no other instance has one
-pub timer-key : (n t k : ℕ) → isTimer t ≡ true → HasCell n t k → k ≡ 0
+pub timer-key : (m : Model) (t k : ℕ) → isTimer t ≡ true → HasCell m t k → k ≡ 0
 unfolding objects
-timer-key n t k e =
-    by-timer (λ t. HasCell n t k → k ≡ 0)
-    (λ h. eqb-true k 0 (sym (can-scalar n k) ∙ h .possible))
-    (λ h. eqb-true k 0 (sym (can-scalar n k) ∙ h .possible))
-    (λ h. eqb-true k 0 (sym (can-scalar n k) ∙ h .possible)) t e
+timer-key m t k e =
+    by-timer (λ t. HasCell m t k → k ≡ 0)
+    (λ h. eqb-true k 0 (sym (can-scalar m k) ∙ h .possible))
+    (λ h. eqb-true k 0 (sym (can-scalar m k) ∙ h .possible))
+    (λ h. eqb-true k 0 (sym (can-scalar m k) ∙ h .possible)) t e
 
 -- the cell of an instance is a timer's where its object is that timer
 abbrev pub TimerByPlace : (i k : ℕ) → Type 0
 TimerByPlace i k = (t : ℕ) → isTimer t ≡ true → eqb (cellOf i k) (cellOf t 0) ≡ eqb i t
 
-pub timer-by-place : (n i k : ℕ) → n ≤ 64 → HasCell n i k → TimerByPlace i k
-timer-by-place n i k few h t e = go (eqb (cellOf i k) (cellOf t 0)) (eqb i t) refl refl
+pub timer-by-place : (m : Model) (i k : ℕ) → m .ports ≤ 64 → HasCell m i k → TimerByPlace i k
+timer-by-place m i k few h t e = go (eqb (cellOf i k) (cellOf t 0)) (eqb i t) refl refl
   where
     go : (a b : Bool) → eqb (cellOf i k) (cellOf t 0) ≡ a → eqb i t ≡ b → a ≡ b
     go true true p q = refl
     go false false p q = refl
     go true false p q =
-        absurd (eqb-false i t q (cell-other n i t k 0 few h (timer-has n t e) (eqb-true (cellOf i k) (cellOf t 0) p) .0))
+        absurd (eqb-false i t q (cell-other m i t k 0 few h (timer-has m t e) (eqb-true (cellOf i k) (cellOf t 0) p) .0))
     go false true p q =
         let j : i ≡ t = eqb-true i t q in
-        let z : k ≡ 0 = timer-key n t k e (subst (λ (x : ℕ). HasCell n x k) j h) in
+        let z : k ≡ 0 = timer-key m t k e (subst (λ (x : ℕ). HasCell m x k) j h) in
         absurd (eqb-false (cellOf i k) (cellOf t 0) p (λ x. cellOf (j x) (z x)))
 
 -- so an object that is no timer has no timer's cell

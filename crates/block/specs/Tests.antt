@@ -23,8 +23,8 @@ abbrev pub isSmall : ℕ → Bool
 isSmall v = leb v 7
 
 -- `rowsOk` in two passes: each row by itself, and the keys. `static_rows_ok` and `statics_ascend` are these
-abbrev pub rowOk : {R : Type 0} → ℕ → Shape → (R → Bool) → ℕ × R → Bool
-rowOk n s t e = canHave n s (index s (e .0)) && t (e .1)
+abbrev pub rowOk : {R : Type 0} → Model → Shape → (R → Bool) → ℕ × R → Bool
+rowOk m s t e = canHave m s (index s (e .0)) && t (e .1)
 
 unfoldable pub ascends : {R : Type 0} → ℕ → List (ℕ × R) → Bool
 ascends low [] = true
@@ -42,16 +42,16 @@ unusedZero b =
     && zeroRun b (endOf pair b) (blockSize - endOf pair b)))
 
 -- the VLAN rows are in order, and the stored number of active ones is theirs
-unfoldable pub vlansOk : ℕ → List ℕ → Bool
-vlansOk n b = rowsOk n Vlan (vlanOk n) 0 (contentOf b .vlans) && eqb (activeVlans (contentOf b .vlans)) (beAt b atVlanTotal 2)
+unfoldable pub vlansOk : Model → List ℕ → Bool
+vlansOk m b = rowsOk m Vlan (vlanOk m) 0 (contentOf b .vlans) && eqb (activeVlans (contentOf b .vlans)) (beAt b atVlanTotal 2)
 
 -- the rows of all tables are in order
-unfoldable pub tablesOk : ℕ → List ℕ → Bool
-tablesOk n b = vlansOk n b && (rowsOk n Static (staticOk n) 0 (contentOf b .statics) && rowsOk n Pair pairOk 0 (contentOf b .pairs))
+unfoldable pub tablesOk : Model → List ℕ → Bool
+tablesOk m b = vlansOk m b && (rowsOk m Static (staticOk m) 0 (contentOf b .statics) && rowsOk m Pair pairOk 0 (contentOf b .pairs))
 
 unfoldable pub partsOk : Model → List ℕ → Bool
 partsOk m b =
     unusedZero b
     && (ltb (contentOf b .deletes) (deletesRoom (m .device))
     && (cellsOk m objects (contentOf b .cells)
-    && (timersHold (m .device) (contentOf b .cells) && tablesOk (m .ports) b)))
+    && (timersHold (m .device) (contentOf b .cells) && tablesOk m b)))

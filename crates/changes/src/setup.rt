@@ -42,12 +42,12 @@ pub enum SetUp {
     Refused,
 }
 
-// The row of VLAN 1 in a fresh block.
-fn fresh_vlan(n: u32) -> VlanRow
-    requires { ⌜ n ≤ 64 ⌝ }
-    ensures { λ r. ⌜ r ≡ freshVlan n ⌝ }
+// The row of VLAN 1 in a fresh block of a model.
+fn fresh_vlan(m: Model) -> VlanRow
+    requires { ⌜ m .ports ≤ 64 ⌝ }
+    ensures { λ r. ⌜ r ≡ freshVlan m ⌝ }
 {
-    let all = ports_to(n);
+    let all = ports_to(m.ports);
     VlanRow {
         status: 1,
         len: 0,
@@ -95,7 +95,7 @@ fn write_fresh_vlans(block: &mut [u8], m: Model)
     ensures { λ _. ⌜ ((c : Content) → WellFormed c → c .vlans ≡ [] → now (block .entry) ≡ image c → now (block .exit) ≡ image (withVlans c (freshVlans m))) ⌝ }
 {
     if m.device == TRANSPARENT {
-        insert_vlan(block, 0, 1, fresh_vlan(m.ports));
+        insert_vlan(block, 0, 1, fresh_vlan(m));
     }
 }
 

@@ -7,6 +7,7 @@ ghost use Rattle.names.specs.SubIds.{subids, nameOctets};
 ghost use Rattle.names.specs.Index.{bases, ranges, index, limit, inOrder, keyIn, least, firstAbove, upFrom, answered};
 use names::Key;
 use names::Shape;
+use names::model::Model;
 use octets::numbers::be4;
 use octets::numbers::put_be4;
 
@@ -59,22 +60,22 @@ pub struct Range {
     pub high: u32,
 }
 
-// What the sub-id at place i may be on a bridge with so many ports.
-fn range_at(ports: u32, shape: Shape, i: usize) -> Range
+// What the sub-id at place i may be on a model.
+fn range_at(m: Model, shape: Shape, i: usize) -> Range
     requires { ⌜ i < length (bases shape) ⌝ }
-    ensures { λ r. ⌜ (r .low ≡ getD (ranges ports shape) i (0, 0) .0) × (r .high ≡ getD (ranges ports shape) i (0, 0) .1) ⌝ }
+    ensures { λ r. ⌜ (r .low ≡ getD (ranges m shape) i (0, 0) .0) × (r .high ≡ getD (ranges m shape) i (0, 0) .1) ⌝ }
 {
     match shape {
         Shape::Scalar => Range { low: 0, high: 0 },
         Shape::Port => Range {
             low: 1,
-            high: ports,
+            high: m.ports,
         },
         Shape::PortPriority => {
             if i == 0 {
                 Range {
                     low: 1,
-                    high: ports,
+                    high: m.ports,
                 }
             } else {
                 Range { low: 0, high: 7 }
@@ -87,13 +88,13 @@ fn range_at(ports: u32, shape: Shape, i: usize) -> Range
             } else {
                 Range {
                     low: 0,
-                    high: ports,
+                    high: m.ports,
                 }
             }
         }
         Shape::Pair => Range {
             low: 1,
-            high: ports,
+            high: m.ports,
         },
     }
 }
@@ -112,10 +113,10 @@ fn in_order(shape: Shape, key: u64) -> bool
     }
 }
 
-// The key that the rest of a name stands for on a bridge with so many ports.
-pub fn key_of(ports: u32, shape: Shape, rest: &[u8]) -> Key
-    requires { ⌜ ports ≤ 64 ⌝ }
-    ensures { λ r. ⌜ r ≡ answered (keyIn ports shape (subids (now (rest .entry)))) ⌝ }
+// The key that the rest of a name stands for on a model.
+pub fn key_of(m: Model, shape: Shape, rest: &[u8]) -> Key
+    requires { ⌜ m .ports ≤ 64 ⌝ }
+    ensures { λ r. ⌜ r ≡ answered (keyIn m shape (subids (now (rest .entry)))) ⌝ }
 {
     let n = index_len(shape);
     if rest.len() / 4 != n {
@@ -125,7 +126,7 @@ pub fn key_of(ports: u32, shape: Shape, rest: &[u8]) -> Key
     let mut i = 0;
     while i < n {
         let x = be4(rest, 4 * i);
-        let range = range_at(ports, shape, i);
+        let range = range_at(m, shape, i);
         if x < range.low {
             return Key::Nothing;
         }

@@ -18,6 +18,7 @@ use Rattle.octets.proofs.NumberLaws.{Octets, beAt-more, beAt-one}
 use Rattle.octets.proofs.BoolLaws.{both}
 use Rattle.names.specs.Index.{canHave, index}
 use Rattle.names.specs.declared.Shape.{Shape}
+use Rattle.names.specs.declared.model.Model.{Model}
 use Rattle.block.specs.Image.{staticAt, contentOf}
 use Rattle.block.specs.declared.tables.Table.the-variants.{Static as static}
 use Rattle.block.specs.Valid.{every, portSet, staticOk, rowsOk}
@@ -36,11 +37,11 @@ mixed false true false e a = refl
 mixed false false t e a = refl
 
 -- the two passes
-pub rows-passes : {R : Type 0} (n : ℕ) (s : Shape) (t : R → Bool) (low : ℕ) (es : List (ℕ × R))
-    → rowsOk n s t low es ≡ (every (rowOk n s t) es && ascends low es)
+pub rows-passes : {R : Type 0} (m : Model) (s : Shape) (t : R → Bool) (low : ℕ) (es : List (ℕ × R))
+    → rowsOk m s t low es ≡ (every (rowOk m s t) es && ascends low es)
 unfolding rowsOk every ascends
-rows-passes n s t low [] = refl
-rows-passes n s t low (e ∷ es) = rw (rows-passes n s t (suc (e .0)) es) (mixed (leb low (e .0)) _ (t (e .1)) (every (rowOk n s t) es) (ascends (suc (e .0)) es))
+rows-passes m s t low [] = refl
+rows-passes m s t low (e ∷ es) = rw (rows-passes m s t (suc (e .0)) es) (mixed (leb low (e .0)) _ (t (e .1)) (every (rowOk m s t) es) (ascends (suc (e .0)) es))
 
 -- a turn of the first one
 pub each-turn : {A : Type 0} (t : A → Bool) (xs : List A) (i : ℕ) (d : A) → i < length xs
@@ -60,13 +61,13 @@ each-at t (x ∷ xs) zero d h e = both (t x) (every t xs) e .0
 each-at t (x ∷ xs) (suc i) d h e = each-at t xs i d (omega arith) (both (t x) (every t xs) e .1)
 
 -- rows that are as they must be have statuses of 3 to 5
-pub rows-status : (n : ℕ) (s : Shape) (es : List (ℕ × StaticRow)) → every (rowOk n s (staticOk n)) es ≡ true → every staticStatus es ≡ true
+pub rows-status : (m : Model) (s : Shape) (es : List (ℕ × StaticRow)) → every (rowOk m s (staticOk m)) es ≡ true → every staticStatus es ≡ true
 unfolding every staticOk
-rows-status n s [] h = refl
-rows-status n s (e ∷ es) h =
-    let r = both (rowOk n s (staticOk n) e) (every (rowOk n s (staticOk n)) es) h in
-    let ok = both (canHave n s (index s (e .0))) (staticOk n (e .1)) (r .0) .1 in
-    rw (both (staticStatus e) (portSet n (e .1 .allowed)) ok .0) (rows-status n s es (r .1))
+rows-status m s [] h = refl
+rows-status m s (e ∷ es) h =
+    let r = both (rowOk m s (staticOk m) e) (every (rowOk m s (staticOk m)) es) h in
+    let ok = both (canHave m s (index s (e .0))) (staticOk m (e .1)) (r .0) .1 in
+    rw (both (staticStatus e) (portSet m (e .1 .allowed)) ok .0) (rows-status m s es (r .1))
 
 -- a turn of the second one
 pub ascends-turn : {R : Type 0} (low : ℕ) (es : List (ℕ × R)) (i : ℕ) (d : ℕ × R) → i < length es

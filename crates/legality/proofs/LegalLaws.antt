@@ -85,21 +85,21 @@ pub column-none : (m : Model) (o : ObjectType) (cs : List ℕ) → cellsOf o ≡
 unfolding columnOk every
 column-none m o cs e = rw (e, take-nil, drop-nil)
 
-live-shape : (n : ℕ) (a : Access) (s : Shape) → n ≤ 64 → (shapeCells a s ≡ 0 → ⊥) → liveCells n s ≤ shapeCells a s
-live-shape n ReadOnly s h e = absurd (e refl)
-live-shape n ReadWrite Scalar h e = omega arith
-live-shape n ReadWrite Port h e = h
-live-shape n ReadWrite PortPriority h e = omega arith
-live-shape n ReadWrite Vlan h e = omega arith
-live-shape n ReadWrite Static h e = omega arith
-live-shape n ReadWrite Pair h e = omega arith
+live-shape : (m : Model) (a : Access) (s : Shape) → m .ports ≤ 64 → (shapeCells a s ≡ 0 → ⊥) → liveCells m s ≤ shapeCells a s
+live-shape m ReadOnly s h e = absurd (e refl)
+live-shape m ReadWrite Scalar h e = omega arith
+live-shape m ReadWrite Port h e = h
+live-shape m ReadWrite PortPriority h e = omega arith
+live-shape m ReadWrite Vlan h e = omega arith
+live-shape m ReadWrite Static h e = omega arith
+live-shape m ReadWrite Pair h e = omega arith
 
 -- an object that has cells has those of ports 1 to N, where the device has the object
 pub live-fits : (m : Model) (o : ObjectType) → m .ports ≤ 64 → (cellsOf o ≡ 0 → ⊥) → liveIn m o ≤ cellsOf o
 live-fits m o h e = go (has (m .device) o)
   where
-    go : (own : Bool) → cond own (liveCells (m .ports) (o .shape)) 0 ≤ cellsOf o
-    go true = live-shape (m .ports) (o .access) (o .shape) h e
+    go : (own : Bool) → cond own (liveCells m (o .shape)) 0 ≤ cellsOf o
+    go true = live-shape m (o .access) (o .shape) h e
     go false = omega arith
 
 -- two tests of each are a test of each
@@ -154,25 +154,25 @@ unfolding cellsIn
 cells-left i h = rw (object-row i h)
 
 -- a turn over the rows of a growing table
-pub rows-turn : {R : Type 0} (n : ℕ) (s : Shape) (t : R → Bool) (low : ℕ) (es : List (ℕ × R)) (i : ℕ) (d : ℕ × R) → i < length es
-    → rowsOk n s t low (drop i es)
-    ≡ (((leb low (getD es i d .0) && canHave n s (index s (getD es i d .0))) && t (getD es i d .1)) && rowsOk n s t (getD es i d .0 + 1) (drop (i + 1) es))
+pub rows-turn : {R : Type 0} (m : Model) (s : Shape) (t : R → Bool) (low : ℕ) (es : List (ℕ × R)) (i : ℕ) (d : ℕ × R) → i < length es
+    → rowsOk m s t low (drop i es)
+    ≡ (((leb low (getD es i d .0) && canHave m s (index s (getD es i d .0))) && t (getD es i d .1)) && rowsOk m s t (getD es i d .0 + 1) (drop (i + 1) es))
 unfolding rowsOk
-rows-turn n s t low es i d h = rw (drop-cons es i d h, add-one i, add-one) (simp and-assoc)
+rows-turn m s t low es i d h = rw (drop-cons es i d h, add-one i, add-one) (simp and-assoc)
 
 -- past the last row there is nothing to test
-pub rows-end : {R : Type 0} (n : ℕ) (s : Shape) (t : R → Bool) (low : ℕ) (es : List (ℕ × R)) (i : ℕ) → length es ≤ i → rowsOk n s t low (drop i es) ≡ true
+pub rows-end : {R : Type 0} (m : Model) (s : Shape) (t : R → Bool) (low : ℕ) (es : List (ℕ × R)) (i : ℕ) → length es ≤ i → rowsOk m s t low (drop i es) ≡ true
 unfolding rowsOk
-rows-end n s t low es i h = rw (drop-of-length-le es h)
+rows-end m s t low es i h = rw (drop-of-length-le es h)
 
--- a key of seven octets is one that a bridge with n ports can have where its last octet is at most n
-pub static-can : (n k : ℕ) → k < 256 ^ 7 → canHave n Static (index Static k) ≡ leb (k % 256) n
+-- a key of seven octets is one that a bridge with N ports can have where its last octet is at most N
+pub static-can : (m : Model) (k : ℕ) → k < 256 ^ 7 → canHave m Static (index Static k) ≡ leb (k % 256) (m .ports)
 unfolding weight
-static-can n k h = can-static n k h
+static-can m k h = can-static m k h
 
--- the tests of a key of two ports: the second is a port where it is at most n, as the first is below it
-pub pair-can : (n k : ℕ) → canHave n Pair (index Pair k) ≡ ((leb 1 (k / 256) && ltb (k / 256) (k % 256)) && leb (k % 256) n)
-pair-can n k = can-pair n k ∙ go (ltb (k / 256) (k % 256)) refl (leb (k % 256) n) refl
+-- the tests of a key of two ports: the second is a port where it is at most N, as the first is below it
+pub pair-can : (m : Model) (k : ℕ) → canHave m Pair (index Pair k) ≡ ((leb 1 (k / 256) && ltb (k / 256) (k % 256)) && leb (k % 256) (m .ports))
+pair-can m k = can-pair m k ∙ go (ltb (k / 256) (k % 256)) refl (leb (k % 256) (m .ports)) refl
   where
     l : ℕ
     l = k / 256
@@ -180,14 +180,14 @@ pair-can n k = can-pair n k ∙ go (ltb (k / 256) (k % 256)) refl (leb (k % 256)
     h : ℕ
     h = k % 256
 
-    go : (below : Bool) → ltb l h ≡ below → (last : Bool) → leb h n ≡ last → ((leb 1 l && leb l n) && (leb 1 h && leb h n)) && ltb l h ≡ (leb 1 l && ltb l h) && leb h n
-    go false p last q = rw (p, and-false ((leb 1 l && leb l n) && (leb 1 h && leb h n)), and-false (leb 1 l))
-    go true p false q = rw (p, q, and-false (leb 1 h), and-false (leb 1 l && leb l n), and-false (leb 1 l && true))
+    go : (below : Bool) → ltb l h ≡ below → (last : Bool) → leb h (m .ports) ≡ last → ((leb 1 l && leb l (m .ports)) && (leb 1 h && leb h (m .ports))) && ltb l h ≡ (leb 1 l && ltb l h) && leb h (m .ports)
+    go false p last q = rw (p, and-false ((leb 1 l && leb l (m .ports)) && (leb 1 h && leb h (m .ports))), and-false (leb 1 l))
+    go true p false q = rw (p, q, and-false (leb 1 h), and-false (leb 1 l && leb l (m .ports)), and-false (leb 1 l && true))
     go true p true q =
         rw (
           p,
           q,
-          le-leb l n (omega (arith, ltb-true l h p, leb-true h n q)),
+          le-leb l (m .ports) (omega (arith, ltb-true l h p, leb-true h (m .ports) q)),
           le-leb 1 h (omega (arith, ltb-true l h p)),
         )
         (simp and-true)
@@ -204,10 +204,10 @@ deletes-test d x h = go (eqb d transparent)
     go true = lt-ltb x (2 ^ 32) h
     go false = below-one x
 
--- a number of 64 bits is a set of ports 1 to n where no port above n is in it
-pub port-set : (n s : ℕ) → s < 2 ^ 64 → portSet n s ≡ onlyTo 64 n s
+-- a number of 64 bits is a set of ports 1 to N where no port above N is in it
+pub port-set : (m : Model) (s : ℕ) → s < 2 ^ 64 → portSet m s ≡ onlyTo 64 (m .ports) s
 unfolding portSet
-port-set n s h = rw (lt-ltb s (2 ^ 64) h)
+port-set m s h = rw (lt-ltb s (2 ^ 64) h)
 
 -- 32 octets are a name where they are 0 behind its length
 pub name-zeros : (len : ℕ) (xs : List ℕ) → Octets xs → length xs ≡ 32 → len ≤ 32 → nameOk len xs ≡ zeroRun xs len (32 - len)
@@ -220,11 +220,11 @@ unfolding nameOk
 name-long len xs h = rw (lt-leb len 32 h)
 
 -- the tests of the VLAN row whose octets start at index at
-pub vlan-tests : (n : ℕ) (b : List ℕ) (at : ℕ)
-    → vlanOk n (vlanAt b at .1)
+pub vlan-tests : (m : Model) (b : List ℕ) (at : ℕ)
+    → vlanOk m (vlanAt b at .1)
     ≡ ((eqb (getD b (at + 2) 0) 1 || eqb (getD b (at + 2) 0) 2)
     && (nameOk (getD b (at + 3) 0) (part b (at + 4) 32)
-    && ((portSet n (beAt b (at + 36) 8) && (portSet n (beAt b (at + 44) 8) && portSet n (beAt b (at + 52) 8)))
+    && ((portSet m (beAt b (at + 36) 8) && (portSet m (beAt b (at + 44) 8) && portSet m (beAt b (at + 52) 8)))
     && disjoint (beAt b (at + 36) 8) (beAt b (at + 44) 8))))
 unfolding vlanOk vlanAt
-vlan-tests n b at = rw (beAt-one, beAt-one)
+vlan-tests m b at = rw (beAt-one, beAt-one)

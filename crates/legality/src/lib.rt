@@ -215,9 +215,9 @@ fn timers_ok(block: &[u8], device: u32) -> bool
 }
 
 // Whether the VLAN row whose octets start at index at is as it must be. Its sets are read behind the test of the name: compiled code reads eight octets at once only where nothing stands between.
-fn vlan_ok(block: &[u8], n: u32, at: usize) -> bool
-    requires { ⌜ (1 ≤ n) × (n ≤ 64) × (at + 60 ≤ length (now block)) ⌝ }
-    ensures { λ t. ⌜ t ≡ vlanOk n (vlanAt (now (block .entry)) at .1) ⌝ }
+fn vlan_ok(block: &[u8], m: Model, at: usize) -> bool
+    requires { ⌜ (1 ≤ m .ports) × (m .ports ≤ 64) × (at + 60 ≤ length (now block)) ⌝ }
+    ensures { λ t. ⌜ t ≡ vlanOk m (vlanAt (now (block .entry)) at .1) ⌝ }
 {
     let from = at + 4;
     let end = at + 36;
@@ -229,7 +229,7 @@ fn vlan_ok(block: &[u8], n: u32, at: usize) -> bool
     let forbidden = be8(block, at + 44);
     let untagged = be8(block, at + 52);
     ((status == 1) | (status == 2))
-        & (sets_ok(n, egress, forbidden, untagged) & are_disjoint(egress, forbidden))
+        & (sets_ok(m, egress, forbidden, untagged) & are_disjoint(egress, forbidden))
 }
 
 // Whether 32 octets are a name of len octets, with zeros behind it.
@@ -243,18 +243,18 @@ fn name_ok(name: &[u8], len: usize) -> bool
     all_zero(name, len, 32 - len)
 }
 
-// Whether three sets have only ports 1 to n.
-fn sets_ok(n: u32, a: u64, b: u64, c: u64) -> bool
-    requires { ⌜ (1 ≤ n) × (n ≤ 64) ⌝ }
-    ensures { λ t. ⌜ t ≡ (portSet n a && (portSet n b && portSet n c)) ⌝ }
+// Whether three sets have only ports 1 to N of a model.
+fn sets_ok(m: Model, a: u64, b: u64, c: u64) -> bool
+    requires { ⌜ (1 ≤ m .ports) × (m .ports ≤ 64) ⌝ }
+    ensures { λ t. ⌜ t ≡ (portSet m a && (portSet m b && portSet m c)) ⌝ }
 {
-    only_to(n, a) & (only_to(n, b) & only_to(n, c))
+    only_to(m.ports, a) & (only_to(m.ports, b) & only_to(m.ports, c))
 }
 
 // Whether the VLAN rows are as they must be: ascending, each with an id that there is, and as many active ones as the block says.
-fn vlans_ok(block: &[u8], n: u32) -> bool
-    requires { ⌜ Sized (now block) × (1 ≤ n) × (n ≤ 64) ⌝ }
-    ensures { λ r. ⌜ r ≡ vlansOk n (now (block .entry)) ⌝ }
+fn vlans_ok(block: &[u8], m: Model) -> bool
+    requires { ⌜ Sized (now block) × (1 ≤ m .ports) × (m .ports ≤ 64) ⌝ }
+    ensures { λ r. ⌜ r ≡ vlansOk m (now (block .entry)) ⌝ }
 {
     let count = row_count(block, Table::Vlan);
     let mut low: u64 = 0;
@@ -264,7 +264,7 @@ fn vlans_ok(block: &[u8], n: u32) -> bool
         let key = row_key(block, Table::Vlan, i);
         let fits = (low <= key)
             & ((1 <= key) & (key <= 4094))
-            & vlan_ok(block, n, AT_VLANS + i * VLAN_WIDTH);
+            & vlan_ok(block, m, AT_VLANS + i * VLAN_WIDTH);
         if !fits {
             return false;
         }
@@ -278,23 +278,23 @@ fn vlans_ok(block: &[u8], n: u32) -> bool
 // How far two statuses of static rows are apart at most: they are 3 to 5.
 const STATUSES_APART: u64 = 2;
 
-fn static_ok(n: u32, r: StaticRow) -> bool
-    requires { ⌜ (1 ≤ n) × (n ≤ 64) ⌝ }
-    ensures { λ t. ⌜ t ≡ staticOk n r ⌝ }
+fn static_ok(m: Model, r: StaticRow) -> bool
+    requires { ⌜ (1 ≤ m .ports) × (m .ports ≤ 64) ⌝ }
+    ensures { λ t. ⌜ t ≡ staticOk m r ⌝ }
 {
-    (3 <= r.status) & (r.status <= 5) & only_to(n, r.allowed)
+    (3 <= r.status) & (r.status <= 5) & only_to(m.ports, r.allowed)
 }
 
-// Whether each static row by itself is as it must be, with a receive port of 0 to n.
-fn static_rows_ok(block: &[u8], n: u32) -> bool
-    requires { ⌜ Sized (now block) × (1 ≤ n) × (n ≤ 64) ⌝ }
-    ensures { λ r. ⌜ r ≡ every (rowOk n Shape.Static (staticOk n)) (contentOf (now (block .entry)) .statics) ⌝ }
+// Whether each static row by itself is as it must be, with a receive port of 0 to N.
+fn static_rows_ok(block: &[u8], m: Model) -> bool
+    requires { ⌜ Sized (now block) × (1 ≤ m .ports) × (m .ports ≤ 64) ⌝ }
+    ensures { λ r. ⌜ r ≡ every (rowOk m Shape.Static (staticOk m)) (contentOf (now (block .entry)) .statics) ⌝ }
 {
     let count = row_count(block, Table::Static);
     let mut i = 0;
     while i < count {
         let port = block[AT_STATICS + i * STATIC_WIDTH + 6];
-        let fits = (port as u32 <= n) & static_ok(n, static_entry(block, i));
+        let fits = (port as u32 <= m.ports) & static_ok(m, static_entry(block, i));
         if !fits {
             return false;
         }
@@ -323,11 +323,11 @@ fn statics_ascend(block: &[u8]) -> bool
 }
 
 // Whether the static rows are as they must be: each by itself, and ascending.
-fn statics_ok(block: &[u8], n: u32) -> bool
-    requires { ⌜ Sized (now block) × (1 ≤ n) × (n ≤ 64) ⌝ }
-    ensures { λ r. ⌜ r ≡ rowsOk n Shape.Static (staticOk n) 0 (contentOf (now (block .entry)) .statics) ⌝ }
+fn statics_ok(block: &[u8], m: Model) -> bool
+    requires { ⌜ Sized (now block) × (1 ≤ m .ports) × (m .ports ≤ 64) ⌝ }
+    ensures { λ r. ⌜ r ≡ rowsOk m Shape.Static (staticOk m) 0 (contentOf (now (block .entry)) .statics) ⌝ }
 {
-    if !static_rows_ok(block, n) {
+    if !static_rows_ok(block, m) {
         return false;
     }
     statics_ascend(block)
@@ -340,16 +340,16 @@ fn pair_ok(r: PairRow) -> bool
 }
 
 // Whether the pair rows are as they must be: ascending, each of two ports, the first below the second.
-fn pairs_ok(block: &[u8], n: u32) -> bool
-    requires { ⌜ Sized (now block) × (n ≤ 64) ⌝ }
-    ensures { λ r. ⌜ r ≡ rowsOk n Shape.Pair pairOk 0 (contentOf (now (block .entry)) .pairs) ⌝ }
+fn pairs_ok(block: &[u8], m: Model) -> bool
+    requires { ⌜ Sized (now block) × (m .ports ≤ 64) ⌝ }
+    ensures { λ r. ⌜ r ≡ rowsOk m Shape.Pair pairOk 0 (contentOf (now (block .entry)) .pairs) ⌝ }
 {
     let count = row_count(block, Table::Pair);
     let mut low: u64 = 0;
     let mut i = 0;
     while i < count {
         let key = row_key(block, Table::Pair, i);
-        let fits = (low <= key) & is_pair(n, key) & pair_ok(pair_entry(block, i));
+        let fits = (low <= key) & is_pair(m, key) & pair_ok(pair_entry(block, i));
         if !fits {
             return false;
         }
@@ -359,13 +359,13 @@ fn pairs_ok(block: &[u8], n: u32) -> bool
     true
 }
 
-// Whether a key is one of two ports of a bridge with n ports, the first below the second.
-fn is_pair(n: u32, key: u64) -> bool
-    ensures { λ r. ⌜ r ≡ canHave n Shape.Pair (index Shape.Pair key) ⌝ }
+// Whether a key is one of two ports of a model, the first below the second.
+fn is_pair(m: Model, key: u64) -> bool
+    ensures { λ r. ⌜ r ≡ canHave m Shape.Pair (index Shape.Pair key) ⌝ }
 {
     let low = key / 256;
     let high = key % 256;
-    (1 <= low) & (low < high) & (high <= n as u64)
+    (1 <= low) & (low < high) & (high <= m.ports as u64)
 }
 
 // Whether VlanNumDeletes is one of the device's: 0 where the device has none.
@@ -410,17 +410,17 @@ pub fn is_legal(block: &[u8]) -> bool
 }
 
 // Whether the rows of all tables are as they must be.
-fn tables_ok(block: &[u8], n: u32) -> bool
-    requires { ⌜ Sized (now block) × (1 ≤ n) × (n ≤ 64) ⌝ }
-    ensures { λ r. ⌜ r ≡ tablesOk n (now (block .entry)) ⌝ }
+fn tables_ok(block: &[u8], m: Model) -> bool
+    requires { ⌜ Sized (now block) × (1 ≤ m .ports) × (m .ports ≤ 64) ⌝ }
+    ensures { λ r. ⌜ r ≡ tablesOk m (now (block .entry)) ⌝ }
 {
-    if !vlans_ok(block, n) {
+    if !vlans_ok(block, m) {
         return false;
     }
-    if !statics_ok(block, n) {
+    if !statics_ok(block, m) {
         return false;
     }
-    pairs_ok(block, n)
+    pairs_ok(block, m)
 }
 
 // Whether the parts of a block are as they must be.
@@ -440,5 +440,5 @@ fn contents_ok(block: &[u8], m: Model) -> bool
     if !timers_ok(block, m.device) {
         return false;
     }
-    tables_ok(block, m.ports)
+    tables_ok(block, m)
 }

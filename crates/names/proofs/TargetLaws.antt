@@ -37,26 +37,26 @@ told-answered (some k) = refl
 
 -- what the device says of the object o at place i decides
 module _ (m : Model) (i : ℕ) (name : List ℕ) {o : ObjectType} {b : Bool} (f : o ≡ objectAt i) (g : b ≡ has (m .device) o) where
-  by-device : targetUnder (m .ports) name (onModel m (some i)) ≡ targetUnder (m .ports) name (cond b (some i) none)
-  by-device = ap (λ (t : Bool). targetUnder (m .ports) name (cond t (some i) none)) (sym (g ∙ ap (has (m .device)) f))
+  by-device : targetUnder m name (onModel m (some i)) ≡ targetUnder m name (cond b (some i) none)
+  by-device = ap (λ (t : Bool). targetUnder m name (cond t (some i) none)) (sym (g ∙ ap (has (m .device)) f))
 
   -- the name of an object that the device has not leads nowhere
-  pub target-foreign : b ≡ false → targetUnder (m .ports) name (onModel m (some i)) ≡ Unknown
-  target-foreign e = by-device ∙ ap (λ (t : Bool). targetUnder (m .ports) name (cond t (some i) none)) e
+  pub target-foreign : b ≡ false → targetUnder m name (onModel m (some i)) ≡ Unknown
+  target-foreign e = by-device ∙ ap (λ (t : Bool). targetUnder m name (cond t (some i) none)) e
 
   -- where the device has it, the rest of the name decides
-  pub target-own : b ≡ true → targetUnder (m .ports) name (onModel m (some i)) ≡ targetAt i (keyIn (m .ports) (objectAt i .shape) (restOf i name))
-  target-own e = by-device ∙ ap (λ (t : Bool). targetUnder (m .ports) name (cond t (some i) none)) e
+  pub target-own : b ≡ true → targetUnder m name (onModel m (some i)) ≡ targetAt i (keyIn m (objectAt i .shape) (restOf i name))
+  target-own e = by-device ∙ ap (λ (t : Bool). targetUnder m name (cond t (some i) none)) e
 
 -- what the key that the code finds in the octets s of a name says, where o is the object type at place i
-pub target-found : (n i : ℕ) (s : List ℕ) {o : ObjectType} {r : Key} → o ≡ objectAt i
-    → r ≡ answered (keyIn n (o .shape) (subids (take (length s - 4 * (7 + o .len)) (drop (4 * (7 + o .len)) s))))
-    → targetAt i (toldKey r) ≡ targetAt i (keyIn n (objectAt i .shape) (restOf i (subids s)))
-target-found n i s {o} {r} f g =
+pub target-found : (m : Model) (i : ℕ) (s : List ℕ) {o : ObjectType} {r : Key} → o ≡ objectAt i
+    → r ≡ answered (keyIn m (o .shape) (subids (take (length s - 4 * (7 + o .len)) (drop (4 * (7 + o .len)) s))))
+    → targetAt i (toldKey r) ≡ targetAt i (keyIn m (objectAt i .shape) (restOf i (subids s)))
+target-found m i s {o} {r} f g =
     ap (λ (x : Key). targetAt i (toldKey x)) g
-    ∙ ap (targetAt i) (told-answered (keyIn n (o .shape) (subids (take (length s - 4 * (7 + o .len)) (drop (4 * (7 + o .len)) s)))))
-    ∙ ap (λ l. targetAt i (keyIn n (o .shape) l)) (ap subids (rest-is s (4 * (7 + o .len))) ∙ subids-drop (7 + o .len) s)
-    ∙ (λ j. targetAt i (keyIn n (f j .shape) (drop (7 + f j .len) (subids s))))
+    ∙ ap (targetAt i) (told-answered (keyIn m (o .shape) (subids (take (length s - 4 * (7 + o .len)) (drop (4 * (7 + o .len)) s)))))
+    ∙ ap (λ l. targetAt i (keyIn m (o .shape) l)) (ap subids (rest-is s (4 * (7 + o .len))) ∙ subids-drop (7 + o .len) s)
+    ∙ (λ j. targetAt i (keyIn m (f j .shape) (drop (7 + f j .len) (subids s))))
 
 -- a name in octets has at least those of the object type that is found for it
 pub place-fits : (s : List ℕ) (i : ℕ) → placeOf (subids s) ≡ some i → 4 * (7 + objectAt i .len) ≤ length s
@@ -69,29 +69,29 @@ abbrev pub Tells : Model → List ℕ → Target → Type 0
 Tells m name Unknown = Unit
 Tells m name (NoIndex i) = (i < objectCount) × (has (m .device) (objectAt i) ≡ true)
 Tells m name (At i k) =
-    (i < objectCount) × (name ≡ instanceName (objectAt i) k) × (canHave (m .ports) (objectAt i .shape) (index (objectAt i .shape) k) ≡ true)
+    (i < objectCount) × (name ≡ instanceName (objectAt i) k) × (canHave m (objectAt i .shape) (index (objectAt i .shape) k) ≡ true)
     × (has (m .device) (objectAt i) ≡ true)
 
 tells : (m : Model) (name : List ℕ) → m .ports ≤ 64 → Tells m name (targetIn m name)
 tells m name few = go (placeOf name) refl
   where
     by-key : (i : ℕ) → placeOf name ≡ some i → has (m .device) (objectAt i) ≡ true → (x : Option ℕ)
-        → keyIn (m .ports) (objectAt i .shape) (restOf i name) ≡ x → Tells m name (targetAt i x)
+        → keyIn m (objectAt i .shape) (restOf i name) ≡ x → Tells m name (targetAt i x)
     by-key i e h none q = (place-is name i e .0, h)
     by-key i e h (some k) q =
-        let r = keyIn-back (m .ports) (objectAt i .shape) (restOf i name) k few q in (
+        let r = keyIn-back m (objectAt i .shape) (restOf i name) k few q in (
           place-is name i e .0,
           place-rest name i e ∙ ap (λ (l : List ℕ). typeName (objectAt i) ++ l) (r .0),
-          subst (λ (l : List ℕ). canHave (m .ports) (objectAt i .shape) l ≡ true) (r .0) (r .2),
+          subst (λ (l : List ℕ). canHave m (objectAt i .shape) l ≡ true) (r .0) (r .2),
           h,
         )
 
     by-device : (i : ℕ) → placeOf name ≡ some i → (t : Bool) → has (m .device) (objectAt i) ≡ t
-        → Tells m name (targetUnder (m .ports) name (cond t (some i) none))
-    by-device i e true h = by-key i e h (keyIn (m .ports) (objectAt i .shape) (restOf i name)) refl
+        → Tells m name (targetUnder m name (cond t (some i) none))
+    by-device i e true h = by-key i e h (keyIn m (objectAt i .shape) (restOf i name)) refl
     by-device i e false h = tt
 
-    go : (p : Option ℕ) → placeOf name ≡ p → Tells m name (targetUnder (m .ports) name (onModel m p))
+    go : (p : Option ℕ) → placeOf name ≡ p → Tells m name (targetUnder m name (onModel m p))
     go none e = tt
     go (some i) e = by-device i e (has (m .device) (objectAt i)) refl
 
@@ -100,12 +100,12 @@ pub target-tells : (m : Model) (name : List ℕ) → m .ports ≤ 64 → {t : Ta
 target-tells m name few e = subst (Tells m name) (sym e) (tells m name few)
 
 -- the name of an instance that the bridge can have leads to it
-pub target-instance : (m : Model) (i k : ℕ) → i < objectCount → canHave (m .ports) (objectAt i .shape) (index (objectAt i .shape) k) ≡ true
+pub target-instance : (m : Model) (i k : ℕ) → i < objectCount → canHave m (objectAt i .shape) (index (objectAt i .shape) k) ≡ true
     → has (m .device) (objectAt i) ≡ true → targetIn m (instanceName (objectAt i) k) ≡ At i k
 target-instance m i k l can own =
     let s : Shape = objectAt i .shape in
     let x : List ℕ = instanceName (objectAt i) k in
     let rest : restOf i x ≡ index s k = drop-at (typeName (objectAt i)) (index s k) (7 + objectAt i .len) (length-typeName i) in
-    ap (λ (p : Option ℕ). targetUnder (m .ports) x (onModel m p)) (place-only x i l (prefix-append (typeName (objectAt i)) (index s k)))
-    ∙ ap (λ (b : Bool). targetUnder (m .ports) x (cond b (some i) none)) own
-    ∙ ap (λ (l : List ℕ). targetAt i (keyIn (m .ports) s l)) rest ∙ ap (targetAt i) (keyIn-index (m .ports) s k can)
+    ap (λ (p : Option ℕ). targetUnder m x (onModel m p)) (place-only x i l (prefix-append (typeName (objectAt i)) (index s k)))
+    ∙ ap (λ (b : Bool). targetUnder m x (cond b (some i) none)) own
+    ∙ ap (λ (l : List ℕ). targetAt i (keyIn m s l)) rest ∙ ap (targetAt i) (keyIn-index m s k can)

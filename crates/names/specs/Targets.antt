@@ -22,9 +22,9 @@ targetAt i none = NoIndex i
 targetAt i (some k) = At i k
 
 -- by the object type that is a prefix of the name, if any
-abbrev pub targetUnder : ℕ → List ℕ → Option ℕ → Target
-targetUnder n name none = Unknown
-targetUnder n name (some i) = targetAt i (keyIn n (objectAt i .shape) (restOf i name))
+abbrev pub targetUnder : Model → List ℕ → Option ℕ → Target
+targetUnder m name none = Unknown
+targetUnder m name (some i) = targetAt i (keyIn m (objectAt i .shape) (restOf i name))
 
 -- a place whose object the model's device has; there an object that it has not is a prefix of no name
 abbrev pub onModel : Model → Option ℕ → Option ℕ
@@ -37,4 +37,4 @@ placeIn m name = onModel m (placeOf name)
 
 -- what a name leads to on a model
 abbrev pub targetIn : Model → List ℕ → Target
-targetIn m name = targetUnder (m .ports) name (placeIn m name)
+targetIn m name = targetUnder m name (placeIn m name)

@@ -30,14 +30,14 @@ use Rattle.reset.proofs.ResetLaws.{stay-short, all-stay, rising-stay, s
 pub reset-valid : (c : Content) → valid c ≡ true → valid (afterReset c) ≡ true
 reset-valid c e =
     let v : Valid c = valid-parts c e in
-    let n : ℕ = c .ports in
-    let p : RowsOk n Static (staticOk n) 0 (c .statics) = rowsOk-parts n Static (staticOk n) 0 (c .statics) (v .rowsIn static) in
+    let m : Model = modelOf c in
+    let p : RowsOk m Static (staticOk m) 0 (c .statics) = rowsOk-parts m Static (staticOk m) 0 (c .statics) (v .rowsIn static) in
     valid-statics c e (stay (c .statics))
-    (parts-rowsOk n Static (staticOk n) 0 (stay (c .statics))
+    (parts-rowsOk m Static (staticOk m) 0 (stay (c .statics))
     (record {
       rising = rising-stay (c .statics) (p .rising);
       least = least-zero (keysOf (stay (c .statics)));
-      each = all-stay (λ e. (canHave n Static (index Static (e .0)) ≡ true) × (staticOk n (e .1) ≡ true)) (c .statics) (p .each);
+      each = all-stay (λ e. (canHave m Static (index Static (e .0)) ≡ true) × (staticOk m (e .1) ≡ true)) (c .statics) (p .each);
     }))
     (omega (arith, stay-short (c .statics), v .few static))
 
@@ -93,4 +93,4 @@ pub rows : ResetRows
 rows b k e =
     ap (λ (c : Content). lookup k (c .statics)) (keeps-legal b e .1)
     ∙ lookup-stay k (contentOf b .statics)
-    (rowsOk-rising (contentOf b .ports) Static (staticOk (contentOf b .ports)) 0 (contentOf b .statics) (valid-parts (contentOf b) (legal-valid b e .0) .rowsIn static))
+    (rowsOk-rising (modelOf (contentOf b)) Static (staticOk (modelOf (contentOf b))) 0 (contentOf b .statics) (valid-parts (contentOf b) (legal-valid b e .0) .rowsIn static))

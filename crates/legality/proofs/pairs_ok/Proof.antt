@@ -18,11 +18,11 @@ use Rattle.legality.proofs.pairs_ok.Statement.{statement}
 use Rattle.legality.proofs.pairs_ok.Tie as tie
 
 abbrev Inv-loop : tie.InvT-loop
-Inv-loop block n count low₀ i₀ low i =
-    (i ≤ count) × (rowsOk n Pair pairOk 0 (contentOf block .pairs) ≡ rowsOk n Pair pairOk low (drop i (contentOf block .pairs)))
+Inv-loop block m count low₀ i₀ low i =
+    (i ≤ count) × (rowsOk m Pair pairOk 0 (contentOf block .pairs) ≡ rowsOk m Pair pairOk low (drop i (contentOf block .pairs)))
 
 abbrev μ-loop : tie.MeasureT-loop
-μ-loop block n count low₀ i₀ low i = count - i
+μ-loop block m count low₀ i₀ low i = count - i
 
 row-count-requires : tie.Need-row-count-requires Inv-loop μ-loop
 row-count-requires c κs = search needs
@@ -57,14 +57,14 @@ fits c = (leb (c .before .before .before .before .before .loop .low) (c .before 
 turn : (c : tie.After-pair-ok Inv-loop μ-loop) →
     let a = c .before .before .before .before .before .before .before .before .args in
     let es = contentOf (a .block .now) .pairs in
-    rowsOk (a .n) Pair pairOk 0 es ≡ (fits c && rowsOk (a .n) Pair pairOk (c .before .before .before .row-key .result + 1) (drop (c .before .before .before .before .before .loop .i + 1) es))
+    rowsOk (a .m) Pair pairOk 0 es ≡ (fits c && rowsOk (a .m) Pair pairOk (c .before .before .before .row-key .result + 1) (drop (c .before .before .before .before .before .loop .i + 1) es))
 turn c =
     let a = c .before .before .before .before .before .before .before .before .args in
     let l = c .before .before .before .before .before .loop in
     let es = contentOf (a .block .now) .pairs in
     l .inv .1
     ∙ rw (
-      rows-turn (a .n) Pair pairOk (l .low) es (l .i) noPair (omega arith),
+      rows-turn (a .m) Pair pairOk (l .low) es (l .i) noPair (omega arith),
       ← key-at es (l .i) (noPair .1),
       ← c .before .before .before .row-key .ensures,
       ← c .before .before .is-pair .ensures,
@@ -91,7 +91,7 @@ returns-2 : tie.Need-returns-2 Inv-loop μ-loop
 returns-2 c =
     let a = c .before .before .before .before .args in
     let l = c .before .loop in
-    sym (l .inv .1 ∙ rows-end (a .n) Pair pairOk (l .low) (contentOf (a .block .now) .pairs) (l .i) (omega arith))
+    sym (l .inv .1 ∙ rows-end (a .m) Pair pairOk (l .low) (contentOf (a .block .now) .pairs) (l .i) (omega arith))
 
 pub pairs-ok-spec : {M : Type 1} → statement M
 pairs-ok-spec =

@@ -17,7 +17,7 @@ only-to-requires-3 c κs = search needs
 returns : tie.Need-returns
 returns c =
     let a = c .before .before .before .args in
-    rw (port-set (a .n) (a .a) (omega arith), port-set (a .n) (a .b) (omega arith), port-set (a .n) (a .c) (omega arith)) (cc)
+    rw (port-set (a .m) (a .a) (omega arith), port-set (a .m) (a .b) (omega arith), port-set (a .m) (a .c) (omega arith)) (cc)
 
 pub sets-ok-spec : {M : Type 1} → statement M
 sets-ok-spec = tie.close (tie.spec only-to-requires only-to-requires-2 only-to-requires-3 returns)

@@ -13,7 +13,7 @@ returns : tie.Need-returns
 unfolding staticOk
 returns c =
     let a = c .before .before .before .args in
-    rw (port-set (a .n) (a .r .allowed) (omega arith)) (cc)
+    rw (port-set (a .m) (a .r .allowed) (omega arith)) (cc)
 
 pub static-ok-spec : {M : Type 1} → statement M
 static-ok-spec = tie.close (tie.spec only-to-requires returns)

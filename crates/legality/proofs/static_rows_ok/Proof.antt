@@ -23,14 +23,14 @@ use Rattle.legality.proofs.static_rows_ok.Statement.{statement}
 use Rattle.legality.proofs.static_rows_ok.Tie as tie
 
 abbrev Inv-loop : tie.InvT-loop
-Inv-loop block n count i₀ i =
-    (i ≤ count) × (every (rowOk n Static (staticOk n)) (contentOf block .statics) ≡ every (rowOk n Static (staticOk n)) (drop i (contentOf block .statics)))
+Inv-loop block m count i₀ i =
+    (i ≤ count) × (every (rowOk m Static (staticOk m)) (contentOf block .statics) ≡ every (rowOk m Static (staticOk m)) (drop i (contentOf block .statics)))
 
 abbrev μ-loop : tie.MeasureT-loop
-μ-loop block n count i₀ i = count - i
+μ-loop block m count i₀ i = count - i
 
 abbrev start : tie.After-static-ok Inv-loop μ-loop → tie.Start Inv-loop μ-loop
-start c = c .before .before .before .before .before .before .before
+start c = c .before .before .before .before .before .before .before .before
 
 row-count-requires : tie.Need-row-count-requires Inv-loop μ-loop
 row-count-requires c κs = search needs
@@ -61,24 +61,24 @@ static-ok-requires c κs = search needs
 
 -- whether the row is as it must be
 abbrev fits : tie.After-static-ok Inv-loop μ-loop → Bool
-fits c = leb (getD (start c .args .block .now) (21556 + c .before .before .before .before .loop .i * 16 + 6) 0) (start c .args .n) && c .static-ok .result
+fits c = leb (getD (start c .args .block .now) (21556 + c .before .before .before .before .before .loop .i * 16 + 6) 0) (start c .args .m .ports) && c .static-ok .result
 
 -- what a turn makes of the answer
 turn : (c : tie.After-static-ok Inv-loop μ-loop) →
     let a = start c .args in
     let es = contentOf (a .block .now) .statics in
-    every (rowOk (a .n) Static (staticOk (a .n))) es ≡ (fits c && every (rowOk (a .n) Static (staticOk (a .n))) (drop (c .before .before .before .before .loop .i + 1) es))
+    every (rowOk (a .m) Static (staticOk (a .m))) es ≡ (fits c && every (rowOk (a .m) Static (staticOk (a .m))) (drop (c .before .before .before .before .before .loop .i + 1) es))
 turn c =
     let a = start c .args in
     let b = a .block .now in
-    let i = c .before .before .before .before .loop .i in
+    let i = c .before .before .before .before .before .loop .i in
     let there : i < beAt b 12 4 = omega (arith, many-statics b) in
-    let octets : Octets b = λ j. omega (arith, c .before .before .before .before .before .before .shared-slice-known .given j) in
+    let octets : Octets b = λ j. omega (arith, c .before .before .before .before .before .before .before .shared-slice-known .given j) in
     let small = subst (λ k. k < 256 ^ 7) (key-at (contentOf b .statics) i (noStatic .1)) (key-small b static i octets (omega arith)) in
-    c .before .before .before .before .loop .inv .1
+    c .before .before .before .before .before .loop .inv .1
     ∙ rw (
-      each-turn (rowOk (a .n) Static (staticOk (a .n))) (contentOf b .statics) i noStatic (omega arith),
-      static-can (a .n) _ small,
+      each-turn (rowOk (a .m) Static (staticOk (a .m))) (contentOf b .statics) i noStatic (omega arith),
+      static-can (a .m) _ small,
       port-is b i noStatic there octets,
       ← c .before .static-entry .ensures,
       ← c .static-ok .ensures,
@@ -100,7 +100,7 @@ returns-2 : tie.Need-returns-2 Inv-loop μ-loop
 returns-2 c =
     let a = c .before .before .before .before .args in
     let l = c .before .loop in
-    sym (l .inv .1 ∙ each-end (rowOk (a .n) Static (staticOk (a .n))) (contentOf (a .block .now) .statics) (l .i) (omega arith))
+    sym (l .inv .1 ∙ each-end (rowOk (a .m) Static (staticOk (a .m))) (contentOf (a .block .now) .statics) (l .i) (omega arith))
 
 pub static-rows-ok-spec : {M : Type 1} → statement M
 static-rows-ok-spec =

@@ -15,18 +15,18 @@ static-rows-ok-requires c κs = search needs
 returns : tie.Need-returns
 returns c =
     let a = c .before .before .before .args in
-    rw (rows-passes (a .n) Static (staticOk (a .n)) 0 (contentOf (a .block .now) .statics), ← c .before .static-rows-ok .ensures, not-true (c .before .static-rows-ok .result) (c .if1 .taken))
+    rw (rows-passes (a .m) Static (staticOk (a .m)) 0 (contentOf (a .block .now) .statics), ← c .before .static-rows-ok .ensures, not-true (c .before .static-rows-ok .result) (c .if1 .taken))
 
 statics-ascend-requires : tie.Need-statics-ascend-requires
 statics-ascend-requires c κs =
     let s = c .before .before .before in
-    (s .pre .0, rows-status (s .args .n) Static (contentOf (s .args .block .now) .statics) (sym (c .before .static-rows-ok .ensures) ∙ not-false _ (c .if1 .left)))
+    (s .pre .0, rows-status (s .args .m) Static (contentOf (s .args .block .now) .statics) (sym (c .before .static-rows-ok .ensures) ∙ not-false _ (c .if1 .left)))
 
 returns-2 : tie.Need-returns-2
 returns-2 c =
     let d = c .before in
     let a = d .before .before .before .args in
-    rw (rows-passes (a .n) Static (staticOk (a .n)) 0 (contentOf (a .block .now) .statics), ← d .before .static-rows-ok .ensures, not-false (d .before .static-rows-ok .result) (d .if1 .left)) (c .statics-ascend .ensures)
+    rw (rows-passes (a .m) Static (staticOk (a .m)) 0 (contentOf (a .block .now) .statics), ← d .before .static-rows-ok .ensures, not-false (d .before .static-rows-ok .result) (d .if1 .left)) (c .statics-ascend .ensures)
 
 pub statics-ok-spec : {M : Type 1} → statement M
 statics-ok-spec = tie.close (tie.spec static-rows-ok-requires returns statics-ascend-requires returns-2)

@@ -43,7 +43,7 @@ returns c =
     let a = c .before .before .before .before .before .args in
     let k : 32 ≡ a .at + 36 - (a .at + 4) = omega arith in
     sym
-    (vlan-tests (a .n) (a .block .now) (a .at)
+    (vlan-tests (a .m) (a .block .now) (a .at)
     ∙ rw (k, ← c .before .name-ok .ensures, not-true (c .before .name-ok .result) (c .if1 .taken)) (and-false (eqb (getD (a .block .now) (a .at + 2) 0) 1 || eqb (getD (a .block .now) (a .at + 2) 0) 2)))
 
 add-status : tie.Need-add-status
@@ -82,7 +82,7 @@ returns-2 c =
     let a = e .before .before .before .before .before .args in
     let k : 32 ≡ a .at + 36 - (a .at + 4) = omega arith in
     sym
-    (vlan-tests (a .n) (a .block .now) (a .at)
+    (vlan-tests (a .m) (a .block .now) (a .at)
     ∙ rw (
       k,
       ← e .before .name-ok .ensures,

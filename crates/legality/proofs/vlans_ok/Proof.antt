@@ -23,14 +23,14 @@ use Rattle.legality.proofs.vlans_ok.Statement.{statement}
 use Rattle.legality.proofs.vlans_ok.Tie as tie
 
 abbrev Inv-loop : tie.InvT-loop
-Inv-loop block n count low₀ active₀ i₀ low active i =
+Inv-loop block m count low₀ active₀ i₀ low active i =
     (i ≤ count)
     × (active ≤ i)
     × (activeVlans (contentOf block .vlans) ≡ active + activeVlans (drop i (contentOf block .vlans)))
-    × (rowsOk n Vlan (vlanOk n) 0 (contentOf block .vlans) ≡ rowsOk n Vlan (vlanOk n) low (drop i (contentOf block .vlans)))
+    × (rowsOk m Vlan (vlanOk m) 0 (contentOf block .vlans) ≡ rowsOk m Vlan (vlanOk m) low (drop i (contentOf block .vlans)))
 
 abbrev μ-loop : tie.MeasureT-loop
-μ-loop block n count low₀ active₀ i₀ low active i = count - i
+μ-loop block m count low₀ active₀ i₀ low active i = count - i
 
 row-count-requires : tie.Need-row-count-requires Inv-loop μ-loop
 row-count-requires c κs = search needs
@@ -65,14 +65,14 @@ fits c = let k = c .before .row-key .result in (leb (c .before .before .before .
 turn : (c : tie.After-vlan-ok Inv-loop μ-loop) →
     let a = c .before .before .before .before .before .before .args in
     let es = contentOf (a .block .now) .vlans in
-    rowsOk (a .n) Vlan (vlanOk (a .n)) 0 es ≡ (fits c && rowsOk (a .n) Vlan (vlanOk (a .n)) (c .before .row-key .result + 1) (drop (c .before .before .before .loop .i + 1) es))
+    rowsOk (a .m) Vlan (vlanOk (a .m)) 0 es ≡ (fits c && rowsOk (a .m) Vlan (vlanOk (a .m)) (c .before .row-key .result + 1) (drop (c .before .before .before .loop .i + 1) es))
 turn c =
     let a = c .before .before .before .before .before .before .args in
     let l = c .before .before .before .loop in
     let es = contentOf (a .block .now) .vlans in
     l .inv .3
     ∙ rw (
-      rows-turn (a .n) Vlan (vlanOk (a .n)) (l .low) es (l .i) noVlan (omega arith),
+      rows-turn (a .m) Vlan (vlanOk (a .m)) (l .low) es (l .i) noVlan (omega arith),
       ← key-at es (l .i) (noVlan .1),
       ← c .before .row-key .ensures,
       can-vlan,
@@ -123,7 +123,7 @@ returns-2 c =
     let l = c .before .before .loop in
     let vs = contentOf (a .block .now) .vlans in
     let all : activeVlans vs ≡ l .active = l .inv .2 ∙ rw (drop-of-length-le vs {i = l .i} (omega arith)) (omega arith) in
-    rw (l .inv .3, rows-end (a .n) Vlan (vlanOk (a .n)) (l .low) vs (l .i) (omega arith), all, c .be .ensures .0)
+    rw (l .inv .3, rows-end (a .m) Vlan (vlanOk (a .m)) (l .low) vs (l .i) (omega arith), all, c .be .ensures .0)
 
 pub vlans-ok-spec : {M : Type 1} → statement M
 vlans-ok-spec =

@@ -16,14 +16,14 @@ use Rattle.identifiers.proofs.index.key_of.Statement.{statement}
 use Rattle.identifiers.proofs.index.key_of.Tie as tie
 
 abbrev Inv-loop : tie.InvT-loop
-Inv-loop ports shape rest n key₀ i₀ key i =
+Inv-loop m shape rest n key₀ i₀ key i =
     (i ≤ n)
     × (0 < weight (drop i (bases shape)))
     × (key * weight (drop i (bases shape)) + weight (drop i (bases shape)) ≤ limit shape)
-    × (keyWithin ports shape (subids rest) ≡ keyFrom key (drop i (ranges ports shape)) (drop i (bases shape)) (drop i (subids rest)))
+    × (keyWithin m shape (subids rest) ≡ keyFrom key (drop i (ranges m shape)) (drop i (bases shape)) (drop i (subids rest)))
 
 abbrev μ-loop : tie.MeasureT-loop
-μ-loop ports shape rest n key₀ i₀ key i = n - i
+μ-loop m shape rest n key₀ i₀ key i = n - i
 
 index-len-requires : tie.Need-index-len-requires Inv-loop μ-loop
 index-len-requires c κs = search needs
@@ -35,7 +35,7 @@ returns c =
 loop-holds : tie.Need-loop-holds Inv-loop μ-loop
 loop-holds c =
     let a = c .before .before .before .args in
-    (omega arith, limit-size (a .shape) .0, omega arith, key-start (a .ports) (a .shape) (subids (a .rest .now)))
+    (omega arith, limit-size (a .shape) .0, omega arith, key-start (a .m) (a .shape) (subids (a .rest .now)))
 
 mul-be4 : tie.Need-mul-be4 Inv-loop μ-loop
 mul-be4 c = omega arith
@@ -51,10 +51,10 @@ returns-2 c =
     let a = c .before .before .before .before .before .before .before .before .before .args in
     let l = c .before .before .before .before .before .loop in
     let r = c .before .before .range-at .ensures in
-    let n = ranges-length (a .ports) (a .shape) in
+    let n = ranges-length (a .m) (a .shape) in
     sym
     (ap answered
-    (within-none (a .ports) (a .shape) (subids (a .rest .now))
+    (within-none (a .m) (a .shape) (subids (a .rest .now))
     (l .inv .3 ∙ key-low _ _ _ (l .i) (l .key) _ (omega arith) (omega arith) (c .before .before .before .be4 .ensures) (omega arith))))
 
 returns-3 : tie.Need-returns-3 Inv-loop μ-loop
@@ -62,10 +62,10 @@ returns-3 c =
     let a = c .before .before .before .before .before .before .before .before .before .before .before .args in
     let l = c .before .before .before .before .before .before .before .loop in
     let r = c .before .before .before .before .range-at .ensures in
-    let n = ranges-length (a .ports) (a .shape) in
+    let n = ranges-length (a .m) (a .shape) in
     sym
     (ap answered
-    (within-none (a .ports) (a .shape) (subids (a .rest .now))
+    (within-none (a .m) (a .shape) (subids (a .rest .now))
     (l .inv .3 ∙ key-high _ _ _ (l .i) (l .key) _ (omega arith) (omega arith) (c .before .before .before .before .before .be4 .ensures) (omega arith))))
 
 base-at-requires : tie.Need-base-at-requires Inv-loop μ-loop
@@ -85,7 +85,7 @@ room c =
     let l = c .before .before .before .before .before .before .before .before .loop in
     let r = c .before .before .before .before .before .range-at .ensures in
     let b = c .base-at .ensures in
-    key-room _ (l .i) _ (l .key) _ _ (omega arith) b (omega (arith, range-lt (a .ports) (a .shape) (l .i) (omega arith) (omega arith))) (l .inv .1) (l .inv .2)
+    key-room _ (l .i) _ (l .key) _ _ (omega arith) b (omega (arith, range-lt (a .m) (a .shape) (l .i) (omega arith) (omega arith))) (l .inv .1) (l .inv .2)
 
 mul-key : tie.Need-mul-key Inv-loop μ-loop
 mul-key c = omega (arith, room c .fits, limit-size (c .before .before .before .before .before .before .before .before .before .before .before .before .args .shape) .1)
@@ -107,7 +107,7 @@ loop-again c =
     let a = c .before .before .before .before .before .before .before .before .before .before .before .before .args in
     let l = c .before .before .before .before .before .before .before .before .loop in
     let r = c .before .before .before .before .before .range-at .ensures in
-    let n = ranges-length (a .ports) (a .shape) in
+    let n = ranges-length (a .m) (a .shape) in
     let x = c .before .before .before .before .before .before .be4 .ensures in (
       omega arith,
       room c .some-left,
@@ -121,16 +121,16 @@ in-order-requires c κs = search needs
 -- the order of the index of the key that was found decides
 by-order : (c : tie.After-in-order Inv-loop μ-loop)
     → keyIn
-    (c .before .before .before .before .before .before .args .ports)
+    (c .before .before .before .before .before .before .args .m)
     (c .before .before .before .before .before .before .args .shape)
     (subids (c .before .before .before .before .before .before .args .rest .now))
     ≡ cond (c .in-order .result) (some (c .before .before .loop .key)) none
 by-order c =
     let a = c .before .before .before .before .before .before .args in
     let l = c .before .before .loop in
-    let n = ranges-length (a .ports) (a .shape) in
+    let n = ranges-length (a .m) (a .shape) in
     let s = subids-count (a .rest .now) in
-    within-some (a .ports) (a .shape) (subids (a .rest .now)) (l .key) (omega arith)
+    within-some (a .m) (a .shape) (subids (a .rest .now)) (l .key) (omega arith)
     (l .inv .3 ∙ key-end _ _ _ (l .i) (l .key) (omega arith) (omega arith) (omega arith))
     ∙ ap (λ (b : Bool). cond b (some (l .key)) none) (sym (c .in-order .ensures))
 

@@ -6,17 +6,18 @@ use native.Mathlib.Omega.{arith}
 use lib.ListN.{getD, replicate, getD-replicate, List·getD-append}
 use borrow.Author.Needs.{needs}
 use Rattle.names.specs.Index.{ranges}
+use Rattle.names.specs.declared.model.Model.{Model}
 use Rattle.names.specs.declared.Shape.the-variants.{Static, Pair}
 use Rattle.identifiers.proofs.index.range_at.Statement.{statement}
 use Rattle.identifiers.proofs.index.range_at.Tie as tie
 
 -- the sub-ids of an address are any octets
-octet : (n i : ℕ) → i < 6 → getD (ranges n Static) i (0, 0) ≡ (0, 255)
-octet n i h = List·getD-append (replicate 6 (0, 255)) ((0, n) ∷ []) (0, 0) i h ∙ getD-replicate 6 i (0, 255) (0, 0) h
+octet : (m : Model) (i : ℕ) → i < 6 → getD (ranges m Static) i (0, 0) ≡ (0, 255)
+octet m i h = List·getD-append (replicate 6 (0, 255)) ((0, m .ports) ∷ []) (0, 0) i h ∙ getD-replicate 6 i (0, 255) (0, 0) h
 
 -- both sub-ids of a pair are ports
-port : (n i : ℕ) → i < 2 → getD (ranges n Pair) i (0, 0) ≡ (1, n)
-port n i h = getD-replicate 2 i (1, n) (0, 0) h
+port : (m : Model) (i : ℕ) → i < 2 → getD (ranges m Pair) i (0, 0) ≡ (1, m .ports)
+port m i h = getD-replicate 2 i (1, m .ports) (0, 0) h
 
 enum-told : tie.Need-enum-told
 enum-told c = search needs
@@ -64,7 +65,7 @@ returns-5 c =
     rw (c .enum-told4 .given .1, e) (refl, refl)
 
 returns-6 : tie.Need-returns-6
-returns-6 c = rw (c .before .enum-told5 .given .1, octet (c .before .before .before .args .ports) (c .before .before .before .args .i) (omega arith)) (refl, refl)
+returns-6 c = rw (c .before .enum-told5 .given .1, octet (c .before .before .before .args .m) (c .before .before .before .args .i) (omega arith)) (refl, refl)
 
 returns-7 : tie.Need-returns-7
 returns-7 c =
@@ -74,7 +75,7 @@ returns-7 c =
 
 returns-8 : tie.Need-returns-8
 returns-8 c =
-    rw (c .enum-told6 .given .1, port (c .before .before .args .ports) (c .before .before .args .i) (rw (c .enum-told6 .given .1) at (c .before .before .pre)))
+    rw (c .enum-told6 .given .1, port (c .before .before .args .m) (c .before .before .args .i) (rw (c .enum-told6 .given .1) at (c .before .before .pre)))
     (refl, refl)
 
 pub range-at-spec : {M : Type 1} → statement M

@@ -30,14 +30,14 @@ returns c =
     let a = c .before .before .before .before .before .before .args in
     let s = subids (a .name .now) in
     let e = place-told (placeOf s) (sym (c .before .before .found .given .1) ∙ c .before .before .before .before .type-of .ensures) in
-    c .target-under .ensures ∙ sym (ap (λ p. targetUnder (a .m .ports) s (onModel (a .m) p)) e)
+    c .target-under .ensures ∙ sym (ap (λ p. targetUnder (a .m) s (onModel (a .m) p)) e)
 
 returns-2 : tie.Need-returns-2
 returns-2 c =
     let a = c .before .before .before .before .args in
     let s = subids (a .name .now) in
     let e = place-told (placeOf s) (sym (c .enum-told .given .1) ∙ c .before .before .type-of .ensures) in
-    sym (ap (λ p. targetUnder (a .m .ports) s (onModel (a .m) p)) e)
+    sym (ap (λ p. targetUnder (a .m) s (onModel (a .m) p)) e)
 
 pub target-of-spec : {M : Type 1} → statement M
 target-of-spec =

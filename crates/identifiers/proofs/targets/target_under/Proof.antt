@@ -48,7 +48,7 @@ returns c =
     let t = f .before .before .before in
     let d = t .before .before in
     let a = d .before .before .args in
-    target-found (a .m .ports) (a .i) (a .name .now) (d .object .ensures) (sym (c .before .key .given .1) ∙ f .key-of .ensures)
+    target-found (a .m) (a .i) (a .name .now) (d .object .ensures) (sym (c .before .key .given .1) ∙ f .key-of .ensures)
     ∙ sym (target-own (a .m) (a .i) (subids (a .name .now)) (d .object .ensures) (t .before .has-object .ensures) (t .if1 .taken))
 
 returns-2 : tie.Need-returns-2
@@ -57,7 +57,7 @@ returns-2 c =
     let t = f .before .before .before in
     let d = t .before .before in
     let a = d .before .before .args in
-    target-found (a .m .ports) (a .i) (a .name .now) (d .object .ensures) (sym (c .enum-told .given .1) ∙ f .key-of .ensures)
+    target-found (a .m) (a .i) (a .name .now) (d .object .ensures) (sym (c .enum-told .given .1) ∙ f .key-of .ensures)
     ∙ sym (target-own (a .m) (a .i) (subids (a .name .now)) (d .object .ensures) (t .before .has-object .ensures) (t .if1 .taken))
 
 returns-3 : tie.Need-returns-3
