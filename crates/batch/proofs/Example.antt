@@ -43,7 +43,7 @@ use Rattle.batch.specs.Names.{groupsOf, among, common, keysAt, allNamed}
 use Rattle.batch.specs.declared.RbBatch.{RbBatch}
 use Rattle.batch.specs.Check.{accepted, refusedWith, offending, shortOf, readSet, eachRead, firstWith, firstPair, isShort, framesJudged, checkBatch}
 use Rattle.batch.specs.Theorems.{framed, Accepted}
-use Rattle.batch.specs.Order.{Turn, Plays, SameInAll}
+use Rattle.batch.specs.Order.{Call, Plays, SameInAll}
 use Rattle.batch.specs.Example.{three, maxAge, helloTime, tenAgain, Batches, routing, pairNumber, pairsOfOne, nearlyFull, makesPair, removesPair, PairBatches}
 use Rattle.batch.proofs.CheckLaws.{accepts-exactly}
 use Rattle.batch.proofs.AcceptLaws.{any-order}
@@ -97,7 +97,7 @@ batches a l o =
     }
   where
     in-all : (c : Content) (w : Accepted (image c) (framed three)) → framesOf mostFrames (framed three) ≡ (three, 0) → every isOctet (framed three) ≡ true
-        → (xs ys : List Turn) → Plays three xs → Plays three ys → SameInAll (image c) xs ys
+        → (xs ys : List Call) → Plays three xs → Plays three ys → SameInAll (image c) xs ys
     in-all c w e u xs ys p q =
         let m : three ≡ w .messages = ap (λ (f : List (List ℕ) × ℕ). f .0) (sym e ∙ w .framed) in
         any-order (image c) (framed three) (octets-every (framed three) u) w xs ys (subst (λ (ms : List (List ℕ)). Plays ms xs) m p) (subst (λ (ms : List (List ℕ)). Plays ms ys) m q)

@@ -15,7 +15,7 @@ use Rattle.answer.specs.Judge.{Asked}
 use Rattle.answer.specs.Cases.{fourPorts, asked, egress, rowStatus, staticStatus, priority, getOf, setOf}
 use Rattle.console.specs.Batch.{mostFrames}
 use Rattle.batch.specs.declared.RbBatch.{RbBatch}
-use Rattle.batch.specs.Order.{Turn, Plays, SameInAll}
+use Rattle.batch.specs.Order.{Call, Plays, SameInAll}
 use Rattle.batch.specs.Check.{accepted, offending, shortOf, refusedWith, checkBatch}
 use Rattle.batch.specs.Theorems.{framed}
 
@@ -39,7 +39,7 @@ pub record Batches (a : List ℕ) : Type 0 where
   pub empty : checkBatch (image (fresh fourPorts a)) [] ≡ accepted
   pub takes : checkBatch (image (fresh fourPorts a)) (framed three) ≡ accepted
   -- so all its orders give the same (E13)
-  pub orders : (xs ys : List Turn) → Plays three xs → Plays three ys → SameInAll (image (fresh fourPorts a)) xs ys
+  pub orders : (xs ys : List Call) → Plays three xs → Plays three ys → SameInAll (image (fresh fourPorts a)) xs ys
   -- the timers count as one scalar; a row is named by any of its columns
   pub timers : checkBatch (image (fresh fourPorts a)) (framed (setOf [] ∷ maxAge ∷ setOf (priority 0 0x10 0 ∷ []) ∷ helloTime ∷ [])) ≡ offending 2 4
   pub row : checkBatch (image (fresh fourPorts a)) (framed (three ++ (tenAgain ∷ maxAge ∷ helloTime ∷ []))) ≡ offending 1 4

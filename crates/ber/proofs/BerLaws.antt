@@ -16,8 +16,8 @@ use Rattle.octets.proofs.NumberLaws.{beAt-one}
 use Rattle.octets.proofs.BoolLaws.{right-of}
 use Rattle.message.specs.declared.form.Field.{Field}
 use Rattle.message.specs.declared.form.Field.the-variants.{Cut, Whole}
-use Rattle.ber.specs.declared.Found.{Found}
-use Rattle.ber.specs.declared.Found.the-variants.{Refused, At}
+use Rattle.ber.specs.declared.PartRead.{PartRead}
+use Rattle.ber.specs.declared.PartRead.the-variants.{Refused, At}
 use Rattle.ber.specs.Ber.{longForm, lengthOctets, lengthSaid, wholeIf, fieldAt, fieldThen, partAt, numberAt, foundThen, fewest, sign, five, unsigned32, unsigned8, isNumber, endsFrom, nameWhole}
 
 -- ## The length octets
@@ -169,7 +169,7 @@ field-tells s at end = go (lengthOctets s (at + 1) end)
 pub field-told : (s : List ℕ) (at end : ℕ) {k : Field} {tag start len : ℕ} → k ≡ fieldAt s at end → k ≡ Whole tag start len → (tag ≡ getD s at 0) × (at < start) × (start + len ≤ end)
 field-told s at end e h = subst (FieldTells s at end) (sym e ∙ h) (field-tells s at end)
 
-abbrev pub FoundTells : (at end : ℕ) → Found → Type 0
+abbrev pub FoundTells : (at end : ℕ) → PartRead → Type 0
 FoundTells at end (Refused n) = Unit
 FoundTells at end (At start len) = (at < start) × (start + len ≤ end)
 
@@ -185,7 +185,7 @@ part-tells tag s at end = go (fieldAt s at end) (field-tells s at end)
         test true = (w .1, w .2)
         test false = tt
 
-module _ (tag : ℕ) (s : List ℕ) (at end : ℕ) {k : Found} {start len : ℕ} where
+module _ (tag : ℕ) (s : List ℕ) (at end : ℕ) {k : PartRead} {start len : ℕ} where
   pub part-told : k ≡ partAt tag s at end → k ≡ At start len → (at < start) × (start + len ≤ end)
   part-told e h = subst (FoundTells at end) (sym e ∙ h) (part-tells tag s at end)
 
@@ -267,7 +267,7 @@ module _ (s : List ℕ) (at len : ℕ) (fits : at + len ≤ length s) where
   five-copied z n e h k = ap (λ (m : ℕ). patch (replicate 5 z) (5 - len) (take m (drop at s))) k ∙ five-put z e h
 
 -- what the field of a number tells: it has an octet at least
-abbrev pub NumberTells : List ℕ → (at end : ℕ) → Found → Type 0
+abbrev pub NumberTells : List ℕ → (at end : ℕ) → PartRead → Type 0
 NumberTells s at end (Refused n) = Unit
 NumberTells s at end (At start len) = (at < start) × (start + len ≤ end) × (1 ≤ len)
 
@@ -280,7 +280,7 @@ pub number-tells : (s : List ℕ) (at end : ℕ) → NumberTells s at end (numbe
 unfolding numberAt
 number-tells s at end = go (partAt 0x02 s at end) (part-tells 0x02 s at end)
   where
-    go : (f : Found) → FoundTells at end f
+    go : (f : PartRead) → FoundTells at end f
         → NumberTells s at end (foundThen f Refused (λ start len. cond (fewest (part s start len)) (At start len) (Refused 16)))
     go (Refused n) w = tt
     go (At start len) w = test (fewest (part s start len)) refl
@@ -289,7 +289,7 @@ number-tells s at end = go (partAt 0x02 s at end) (part-tells 0x02 s at end)
         test true e = (w .0, w .1, some s start len e)
         test false e = tt
 
-pub number-told : (s : List ℕ) (at end : ℕ) {k : Found} {start len : ℕ} → k ≡ numberAt s at end → k ≡ At start len → (at < start) × (start + len ≤ end) × (1 ≤ len)
+pub number-told : (s : List ℕ) (at end : ℕ) {k : PartRead} {start len : ℕ} → k ≡ numberAt s at end → k ≡ At start len → (at < start) × (start + len ≤ end) × (1 ≤ len)
 number-told s at end e h = subst (NumberTells s at end) (sym e ∙ h) (number-tells s at end)
 
 module _ (s : List ℕ) (at len : ℕ) (fits : at + len ≤ length s) where

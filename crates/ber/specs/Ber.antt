@@ -8,8 +8,8 @@ use Rattle.octets.specs.Numbers.{beAt}
 use Rattle.octets.specs.Parts.{part}
 use Rattle.message.specs.declared.form.Field.{Field}
 use Rattle.message.specs.declared.form.Field.the-variants.{Cut, Whole}
-use Rattle.ber.specs.declared.Found.{Found}
-use Rattle.ber.specs.declared.Found.the-variants.{Refused, At}
+use Rattle.ber.specs.declared.PartRead.{PartRead}
+use Rattle.ber.specs.declared.PartRead.the-variants.{Refused, At}
 
 -- ## Fields
 
@@ -43,12 +43,12 @@ abbrev pub fieldThen : {A : Type 0} → Field → (ℕ → A) → (ℕ → ℕ �
 fieldThen Cut stop go = stop 16
 fieldThen (Whole tag start len) stop go = go tag start len
 
-abbrev pub foundThen : {A : Type 0} → Found → (ℕ → A) → (ℕ → ℕ → A) → A
+abbrev pub foundThen : {A : Type 0} → PartRead → (ℕ → A) → (ℕ → ℕ → A) → A
 foundThen (Refused n) stop go = stop n
 foundThen (At start len) stop go = go start len
 
 -- "per field its length, its tag": a field of one tag, "16 .. a wrong tag other than a PDU's (18) or a content's (19)"
-unfoldable pub partAt : (tag : ℕ) → List ℕ → (at end : ℕ) → Found
+unfoldable pub partAt : (tag : ℕ) → List ℕ → (at end : ℕ) → PartRead
 partAt tag s at end = fieldThen (fieldAt s at end) Refused (λ t start len. cond (eqb t tag) (At start len) (Refused 16))
 
 -- ## Numbers: two's complement, most significant octet first
@@ -87,7 +87,7 @@ unfoldable pub isNumber : ℕ → List ℕ → Bool
 isNumber n xs = eqb (length xs) 1 && eqb (getD xs 0 0) n
 
 -- the field of a number
-unfoldable pub numberAt : List ℕ → (at end : ℕ) → Found
+unfoldable pub numberAt : List ℕ → (at end : ℕ) → PartRead
 numberAt s at end =
     foundThen (partAt 0x02 s at end) Refused (λ start len. cond (fewest (part s start len)) (At start len) (Refused 16))
 

@@ -28,7 +28,7 @@ pub const TOO_LONG: u8 = 20;
 pub const NOT_REFUSED: u8 = 0;
 
 // A field in its place, or its refusal.
-pub enum Found {
+pub enum PartRead {
     Refused(u8),
     At { start: usize, len: usize },
 }
@@ -110,17 +110,17 @@ pub fn field_at(s: &[u8], at: usize, end: usize) -> Field
 }
 
 // The field at an offset, if it has the tag.
-pub fn part_at(tag: u8, s: &[u8], at: usize, end: usize) -> Found
+pub fn part_at(tag: u8, s: &[u8], at: usize, end: usize) -> PartRead
     requires { ⌜ (end ≤ length (now s)) × (end ≤ mostOctets) ⌝ }
     ensures { λ r. ⌜ r ≡ partAt tag (now (s .entry)) at end ⌝ }
 {
     match field_at(s, at, end) {
-        Field::Cut => Found::Refused(BROKEN),
+        Field::Cut => PartRead::Refused(BROKEN),
         Field::Whole { tag: t, start, len } => {
             if t == tag {
-                Found::At { start, len }
+                PartRead::At { start, len }
             } else {
-                Found::Refused(BROKEN)
+                PartRead::Refused(BROKEN)
             }
         }
     }
@@ -206,17 +206,17 @@ pub fn is_unsigned8(s: &[u8], at: usize, len: usize) -> bool
 }
 
 // The number field at an offset.
-pub fn number_at(s: &[u8], at: usize, end: usize) -> Found
+pub fn number_at(s: &[u8], at: usize, end: usize) -> PartRead
     requires { ⌜ (end ≤ length (now s)) × (end ≤ mostOctets) ⌝ }
     ensures { λ r. ⌜ r ≡ numberAt (now (s .entry)) at end ⌝ }
 {
     match part_at(0x02, s, at, end) {
-        Found::Refused(n) => Found::Refused(n),
-        Found::At { start, len } => {
+        PartRead::Refused(n) => PartRead::Refused(n),
+        PartRead::At { start, len } => {
             if is_fewest(s, start, len) {
-                Found::At { start, len }
+                PartRead::At { start, len }
             } else {
-                Found::Refused(BROKEN)
+                PartRead::Refused(BROKEN)
             }
         }
     }

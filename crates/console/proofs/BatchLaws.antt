@@ -13,7 +13,7 @@ use Rattle.octets.proofs.OctetLaws.{octets-drop}
 use Rattle.console.specs.Frames.{heading, filling, fresh, Step, inside, whole, wrong, arrived, run}
 use Rattle.console.specs.Positions.{meant, moved, HeadOf}
 use Rattle.console.specs.Batch.{Within, noSpan, AllWithin, mostFrames, framesMany, led, framesOf, octetsAt, Means}
-use Rattle.console.specs.declared.header.Head.{Head}
+use Rattle.console.specs.declared.header.FrameHead.{FrameHead}
 use Rattle.console.specs.declared.frames.Span.{Span}
 use Rattle.console.specs.declared.frames.Framed.{Framed}
 use Rattle.console.specs.declared.frames.Framed.the-variants.{Whole, Refused}
@@ -45,13 +45,13 @@ unfolding led
 led-whole m r e = rw e
 
 -- the frame at a place, by what the header says
-pub head-here : (b : List ℕ) (at : ℕ) {h : Head} → HeadOf (take (length b - at) (drop at b)) 0 0 h → HeadOf (drop at b) 0 0 h
+pub head-here : (b : List ℕ) (at : ℕ) {h : FrameHead} → HeadOf (take (length b - at) (drop at b)) 0 0 h → HeadOf (drop at b) 0 0 h
 head-here b at w =
     let l : length (drop at b) ≡ length b - at = length-drop at b in
     let e : take (length b - at) (drop at b) ≡ drop at b = take-all (length b - at) (drop at b) (omega arith) in
     rw e at w
 
-module _ (b : List ℕ) (at : ℕ) {h : Head} (w : HeadOf (drop at b) 0 0 h) where
+module _ (b : List ℕ) (at : ℕ) {h : FrameHead} (w : HeadOf (drop at b) 0 0 h) where
   runs : {s : Step} → meant (h .number) (h .count) (h .size) ≡ s → run (drop at b) (inside fresh) ≡ moved (h .taken) (run (drop (h .taken) (drop at b)) s)
   runs {s} e = w .means ∙ ap (λ (u : Step). moved (h .taken) (run (drop (h .taken) (drop at b)) u)) e
 

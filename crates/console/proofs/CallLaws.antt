@@ -16,7 +16,7 @@ use Rattle.console.specs.Frames.{heading, filling, Step, inside, wrong, 
 use Rattle.console.specs.State.{Saved, going, ended, saved, resumed, state, image, savedIn, savedOf, isLeft}
 use Rattle.console.specs.Calls.{refused, told, taking}
 use Rattle.console.specs.Positions.{meant, moved, InHeader, HeadOf, Tail}
-use Rattle.console.specs.declared.header.Head.{Head}
+use Rattle.console.specs.declared.header.FrameHead.{FrameHead}
 use Rattle.console.proofs.RunLaws.{run-wrong, arrived-part}
 use Rattle.console.proofs.HeaderLaws.{meant-wrong, meant-sized, moved-none}
 use Rattle.console.proofs.StateLaws.{patch-first, drop-state, wrong-told, cut-told}
@@ -27,7 +27,7 @@ unfolding meant
 meant-inside c z h = rw (ne-eqb c 5 h)
 
 -- a chunk whose octets the header took: refused, within a message, or used up
-module _ (room : List ℕ) {chunk : List ℕ} {count size : ℕ} {h : Head} (w : HeadOf chunk count size h) where
+module _ (room : List ℕ) {chunk : List ℕ} {count size : ℕ} {h : FrameHead} (w : HeadOf chunk count size h) where
   means : {s : Step} → meant (h .number) (h .count) (h .size) ≡ s → told room (moved (h .taken) (run (drop (h .taken) chunk) s)) ≡ told room (run chunk (inside (heading count size)))
   means {s} e = sym (ap (told room) (w .means ∙ ap (λ (u : Step). moved (h .taken) (run (drop (h .taken) chunk) u)) e))
 

@@ -15,8 +15,8 @@ abbrev pub markOctets : ℕ
 markOctets = 3
 
 -- the mark and the message length; and all of them but the last
-abbrev pub headerOctets : ℕ
-headerOctets = 5
+abbrev pub headerSize : ℕ
+headerSize = 5
 
 abbrev pub lastMissing : ℕ
 lastMissing = 4

@@ -7,7 +7,7 @@ use Prim.Native.Nat.{ℕ, _+_, _*_, _≤_, _<_}
 use lib.ListN.{length, take, getD}
 use Rattle.octets.specs.Parts.{zeros}
 use Rattle.message.specs.Answer.{mostOctets}
-use Rattle.console.specs.Frames.{mark, markOctets, headerOctets, headerWrong, lengthOver, frame, fresh, wrong}
+use Rattle.console.specs.Frames.{mark, markOctets, headerSize, headerWrong, lengthOver, frame, fresh, wrong}
 use Rattle.console.specs.State.{going, image, savedOf, isLeft, stateSize}
 use Rattle.console.specs.Calls.{roomShort, refused, told, taking}
 use Rattle.console.specs.Streams.{Heard, Session, Offers, hears, AllOctets}
@@ -83,7 +83,7 @@ FirstWrongOctet =
 abbrev pub FifthOctet : Type 0
 FifthOctet =
     (high low : ℕ) (rest room : List ℕ) → mostOctets < high * 256 + low → mostOctets ≤ length room
-    → taking (zeros stateSize) (mark ++ (high ∷ low ∷ rest)) room ≡ told room (headerOctets, wrong lengthOver)
+    → taking (zeros stateSize) (mark ++ (high ∷ low ∷ rest)) room ≡ told room (headerSize, wrong lengthOver)
 
 -- What a reset writes, 1,477 octets of 0, is the fresh state, and a stream leaves it.
 abbrev pub FreshIsZero : Type 0

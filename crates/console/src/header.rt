@@ -67,7 +67,7 @@ fn next_position(count: usize, size: usize, octet: u8) -> Position
 }
 
 // A position, and how many octets of a chunk lead there.
-pub struct Head {
+pub struct FrameHead {
     pub taken: usize,
     pub number: u8,
     pub count: usize,
@@ -75,7 +75,7 @@ pub struct Head {
 }
 
 // Takes octets of a chunk as far as the header goes.
-pub fn read_header(chunk: &[u8], count: usize, size: usize) -> Head
+pub fn read_header(chunk: &[u8], count: usize, size: usize) -> FrameHead
     requires { ⌜ InHeader count size ⌝ }
     ensures { λ r. ⌜ HeadOf (now (chunk .entry)) count size r ⌝ }
 {
@@ -86,7 +86,7 @@ pub fn read_header(chunk: &[u8], count: usize, size: usize) -> Head
         let p = next_position(c, z, chunk[i]);
         i += 1;
         if p.number != 0 {
-            return Head {
+            return FrameHead {
                 taken: i,
                 number: p.number,
                 count: 0,
@@ -94,7 +94,7 @@ pub fn read_header(chunk: &[u8], count: usize, size: usize) -> Head
             };
         }
         if p.count == HEADER_OCTETS {
-            return Head {
+            return FrameHead {
                 taken: i,
                 number: 0,
                 count: HEADER_OCTETS,
@@ -104,7 +104,7 @@ pub fn read_header(chunk: &[u8], count: usize, size: usize) -> Head
         c = p.count;
         z = p.size;
     }
-    Head {
+    FrameHead {
         taken: i,
         number: 0,
         count: c,

@@ -9,7 +9,7 @@ ghost use mathlib.Core.List.{[]};
 ghost use lib.ListN.{length, drop};
 ghost use Rattle.octets.specs.Parts.{part};
 ghost use Rattle.message.specs.Answer.{mostOctets};
-ghost use Rattle.console.specs.Frames.{heading, inside, arrived, run, headerOctets};
+ghost use Rattle.console.specs.Frames.{heading, inside, arrived, run, headerSize};
 ghost use Rattle.console.specs.State.{atContents};
 ghost use Rattle.console.specs.Calls.{outcome, told, taking, resetting};
 ghost use Rattle.console.specs.Positions.{moved, InHeader, Tail};
@@ -52,7 +52,7 @@ fn take_contents(
     held: usize,
     size: usize,
 ) -> RbConsole
-    requires { ⌜ Tail (now saved) held × (held ≤ size) × (size ≤ mostOctets) × (at ≤ length (now chunk)) × (at ≤ headerOctets) × (mostOctets ≤ length (now room)) ⌝ }
+    requires { ⌜ Tail (now saved) held × (held ≤ size) × (size ≤ mostOctets) × (at ≤ length (now chunk)) × (at ≤ headerSize) × (mostOctets ≤ length (now room)) ⌝ }
     ensures { λ r. ⌜ outcome r (now (room .exit)) (now (saved .exit)) ≡ told (now (room .entry)) (moved at (run (drop at (now (chunk .entry))) (arrived size (part (now (saved .entry)) atContents held)))) ⌝ }
 {
     let rest = chunk.len() - at;

@@ -19,12 +19,12 @@ use Rattle.console.specs.Batch.{mostFrames, framesOf, octetsAt, Within, noSpan,
 use Rattle.console.specs.declared.frames.Span.{Span}
 use Rattle.batch.specs.Check.{accepted, checkBatch}
 use Rattle.batch.specs.Theorems.{numbered, Accepted}
-use Rattle.batch.specs.Order.{Turn, played, left, Plays, SameAnswer, SameInAll}
+use Rattle.batch.specs.Order.{Call, played, left, Plays, SameAnswer, SameInAll}
 use Rattle.batch.proofs.Theorems.{accepts, orders}
 use Rattle.refbridge.specs.declared.RbResult.{RbResult}
 use Rattle.refbridge.specs.declared.batches.TwoPlays.{TwoPlays}
 use Rattle.refbridge.specs.Calls.{outcome}
-use Rattle.refbridge.specs.Batches.{messagesOf, roomAt, allRooms, turnsFrom, turnsOf, noResult, noTurn, Turned, InOrder, numbersFrom, IsOrder, Alike, TwoOrders}
+use Rattle.refbridge.specs.Batches.{messagesOf, roomAt, allRooms, turnsFrom, turnsOf, noResult, noCall, Turned, PlayedInOrder, numbersFrom, IsOrder, Alike, TwoOrders}
 
 -- a part of a list, written over
 module _ (xs ys : List ℕ) (a w : ℕ) (fits : a + w ≤ length xs) (long : length ys ≡ w) where
@@ -126,7 +126,7 @@ module _ (ms : List (List ℕ)) (rooms : List ℕ) where
   many-turns k [] = refl
   many-turns k (i ∷ order) = ap suc (many-turns (suc k) order)
 
-  pub turn-at : (k : ℕ) (order : List ℕ) (j : ℕ) (d : Turn) → j < length order
+  pub turn-at : (k : ℕ) (order : List ℕ) (j : ℕ) (d : Call) → j < length order
       → getD (turnsFrom ms rooms k order) j d ≡ record { message = numbered ms (getD order j 0); room = roomAt rooms (k + j) }
   unfolding turnsFrom
   turn-at k [] j d h = absurd (omega arith)
@@ -135,7 +135,7 @@ module _ (ms : List (List ℕ)) (rooms : List ℕ) where
       let e : suc k + j ≡ k + suc j = omega arith in
       turn-at (suc k) order j d (omega arith) ∙ ap (λ (n : ℕ). record { message = numbered ms (getD order j 0); room = roomAt rooms n }) e
 
-  messages-are : (k : ℕ) (order : List ℕ) → map (λ (t : Turn). t .message) (turnsFrom ms rooms k order) ≡ map (numbered ms) order
+  messages-are : (k : ℕ) (order : List ℕ) → map (λ (t : Call). t .message) (turnsFrom ms rooms k order) ≡ map (numbered ms) order
   unfolding turnsFrom
   messages-are k [] = refl
   messages-are k (i ∷ order) = ap (λ (l : List (List ℕ)). numbered ms i ∷ l) (messages-are (suc k) order)
@@ -148,31 +148,31 @@ module _ (ms : List (List ℕ)) (rooms : List ℕ) where
       (omega (arith, e), rooms-are (suc k) order l (omega arith))
 
 -- what is played, by its place
-abbrev pub noneTurn : Turn
-noneTurn = record { message = []; room = [] }
+abbrev pub emptyCall : Call
+emptyCall = record { message = []; room = [] }
 
-pub many-played : (block : List ℕ) (ts : List Turn) → length (played block ts) ≡ length ts
+pub many-played : (block : List ℕ) (ts : List Call) → length (played block ts) ≡ length ts
 unfolding played
 many-played block [] = refl
 many-played block (t ∷ ts) = ap suc (many-played (answerOf block (t .message) (t .room) .block) ts)
 
-pub played-at : (block : List ℕ) (ts : List Turn) (k : ℕ) {m room : List ℕ} → k < length ts → getD ts k noneTurn ≡ record { message = m; room = room }
-    → getD (played block ts) k noTurn ≡ (m, answerOf (left block (take k ts)) m room)
+pub played-at : (block : List ℕ) (ts : List Call) (k : ℕ) {m room : List ℕ} → k < length ts → getD ts k emptyCall ≡ record { message = m; room = room }
+    → getD (played block ts) k noCall ≡ (m, answerOf (left block (take k ts)) m room)
 unfolding played left
 played-at block [] k h e = absurd (omega arith)
-played-at block (t ∷ ts) zero h e = ap (λ (u : Turn). (u .message, answerOf block (u .message) (u .room))) e
+played-at block (t ∷ ts) zero h e = ap (λ (u : Call). (u .message, answerOf block (u .message) (u .room))) e
 played-at block (t ∷ ts) (suc k) h e = played-at (answerOf block (t .message) (t .room) .block) ts k (omega arith) e
 
-pub left-next : (block : List ℕ) (ts : List Turn) (k : ℕ) {m room : List ℕ} → k < length ts → getD ts k noneTurn ≡ record { message = m; room = room }
+pub left-next : (block : List ℕ) (ts : List Call) (k : ℕ) {m room : List ℕ} → k < length ts → getD ts k emptyCall ≡ record { message = m; room = room }
     → left block (take (suc k) ts) ≡ answerOf (left block (take k ts)) m room .block
 unfolding left
 left-next block [] k h e = absurd (omega arith)
-left-next block (t ∷ ts) zero h e = ap (λ (u : Turn). answerOf block (u .message) (u .room) .block) e
+left-next block (t ∷ ts) zero h e = ap (λ (u : Call). answerOf block (u .message) (u .room) .block) e
 left-next block (t ∷ ts) (suc k) h e = left-next (answerOf block (t .message) (t .room) .block) ts k (omega arith) e
 
 -- k turns are played
 module _ (block batch order rooms : List ℕ) where
-  abbrev ts : List Turn
+  abbrev ts : List Call
   ts = turnsOf batch order rooms
 
   pub record Sofar (k : ℕ) (results : List RbResult) (rooms-now block-now : List ℕ) : Type 0 where
@@ -180,7 +180,7 @@ module _ (block batch order rooms : List ℕ) where
     pub long : length rooms-now ≡ allRooms
     pub many : length results ≡ mostFrames
     pub block-is : block-now ≡ left block (take k ts)
-    pub done : (j : ℕ) → j < k → outcome (getD results j noResult) (roomAt rooms-now j) (left block (take (suc j) ts)) ≡ getD (played block ts) j noTurn .1
+    pub done : (j : ℕ) → j < k → outcome (getD results j noResult) (roomAt rooms-now j) (left block (take (suc j) ts)) ≡ getD (played block ts) j noCall .1
     pub ahead : (j : ℕ) → k ≤ j → roomAt rooms-now j ≡ roomAt rooms j
 
   pub sofar-none : (results : List RbResult) → length rooms ≡ allRooms → length results ≡ mostFrames → Sofar 0 results rooms block
@@ -189,7 +189,7 @@ module _ (block batch order rooms : List ℕ) where
       record { few = omega arith; long = l; many = m; block-is = refl; done = λ j h. absurd (omega arith); ahead = λ j h. refl }
 
   module _ {k : ℕ} {results : List RbResult} {rooms-now block-now : List ℕ} (w : Sofar k results rooms-now block-now) where
-    pub sofar-all : length order ≤ k → InOrder block batch order rooms results rooms-now block-now
+    pub sofar-all : length order ≤ k → PlayedInOrder block batch order rooms results rooms-now block-now
     sofar-all h =
         let e : k ≡ length ts = omega (arith, w .few, many-turns (messagesOf batch) rooms 0 order) in
         record { each = λ j l. w .done j (omega arith); last = w .block-is ∙ ap (λ (n : ℕ). left block (take n ts)) e ∙ ap (left block) (take-length ts) }
@@ -197,10 +197,10 @@ module _ (block batch order rooms : List ℕ) where
     module _ (h : k < length order) (low : k < mostFrames) {m : List ℕ} (em : m ≡ numbered (messagesOf batch) (getD order k 0))
         {r : RbResult} {rooms-after block-after : List ℕ} (t : Turned block-now m rooms-now k r rooms-after block-after)
       where
-        turn : getD ts k noneTurn ≡ record { message = numbered (messagesOf batch) (getD order k 0); room = roomAt rooms k }
+        turn : getD ts k emptyCall ≡ record { message = numbered (messagesOf batch) (getD order k 0); room = roomAt rooms k }
         turn =
             let e : 0 + k ≡ k = omega arith in
-            turn-at (messagesOf batch) rooms 0 order k noneTurn h
+            turn-at (messagesOf batch) rooms 0 order k emptyCall h
             ∙ ap (λ (n : ℕ). record { message = numbered (messagesOf batch) (getD order k 0); room = roomAt rooms n }) e
 
         within : k < length ts
@@ -224,7 +224,7 @@ module _ (block batch order rooms : List ℕ) where
               block-is = block-next ∙ ap (λ (n : ℕ). left block (take n ts)) (sym (add-one k));
               done =
                   λ j l. by-eq j k
-                  (λ e. subst (λ (i : ℕ). outcome (getD (set results k r) i noResult) (roomAt rooms-after i) (left block (take (suc i) ts)) ≡ getD (played block ts) i noTurn .1) (sym e)
+                  (λ e. subst (λ (i : ℕ). outcome (getD (set results k r) i noResult) (roomAt rooms-after i) (left block (take (suc i) ts)) ≡ getD (played block ts) i noCall .1) (sym e)
                   ((λ i. outcome (getD-set-same results k r noResult (omega (arith, low, w .many)) i) (roomAt rooms-after k) (sym block-next i)) ∙ answer
                   ∙ sym (ap (λ (p : List ℕ × Outcome). p .1) (played-at block ts k within turn))))
                   (λ e.
@@ -253,20 +253,20 @@ plays-order batch order rooms l h d =
     let ms : List (List ℕ) = messagesOf batch in
     record {
       order =
-          subst (λ (xs : List (List ℕ)). List·Permᴰ xs (map (λ (t : Turn). t .message) (turnsOf batch order rooms))) (numbers-from ([] ∷ []) ms)
+          subst (λ (xs : List (List ℕ)). List·Permᴰ xs (map (λ (t : Call). t .message) (turnsOf batch order rooms))) (numbers-from ([] ∷ []) ms)
           (subst (List·Permᴰ (map (numbered ms) (numbersFrom 1 (length ms)))) (sym (messages-are ms rooms 0 order)) (map-order (numbered ms) d));
       rooms = rooms-are ms rooms 0 order l (omega arith);
     }
 
 -- two orders of a batch that is accepted
 module _ (block batch p q rooms more : List ℕ) {first second : List RbResult} {rooms-after more-after one-after other-after : List ℕ}
-    (u : InOrder block batch p rooms first rooms-after one-after) (v : InOrder block batch q more second more-after other-after)
+    (u : PlayedInOrder block batch p rooms first rooms-after one-after) (v : PlayedInOrder block batch q more second more-after other-after)
     (s : SameInAll block (turnsOf batch p rooms) (turnsOf batch q more))
   where
-    abbrev xs : List Turn
+    abbrev xs : List Call
     xs = turnsOf batch p rooms
 
-    abbrev ys : List Turn
+    abbrev ys : List Call
     ys = turnsOf batch q more
 
     in-first : (k : ℕ) → k < length p → k < length (played block xs)
@@ -276,19 +276,19 @@ module _ (block batch p q rooms more : List ℕ) {first second : List RbResult} 
     in-second k h = omega (arith, h, many-played block ys, many-turns (messagesOf batch) more 0 q)
 
     -- two turns with one message
-    meets : (j k : ℕ) → j < length p → k < length q → getD p j 0 ≡ getD q k 0 → SameAnswer (getD (played block xs) j noTurn .1) (getD (played block ys) k noTurn .1)
+    meets : (j k : ℕ) → j < length p → k < length q → getD p j 0 ≡ getD q k 0 → SameAnswer (getD (played block xs) j noCall .1) (getD (played block ys) k noCall .1)
     meets j k hj hk e =
-        all-at (λ u. getD (played block xs) j noTurn .0 ≡ u .0 → SameAnswer (getD (played block xs) j noTurn .1) (u .1)) noTurn (played block ys) k
-        (all-at (λ o. Every (λ u. o .0 ≡ u .0 → SameAnswer (o .1) (u .1)) (played block ys)) noTurn (played block xs) j (s .same) (in-first j hj)) (in-second k hk)
-        (ap (λ (o : List ℕ × Outcome). o .0) (played-at block xs j (omega (arith, hj, many-turns (messagesOf batch) rooms 0 p)) (turn-at (messagesOf batch) rooms 0 p j noneTurn hj))
+        all-at (λ u. getD (played block xs) j noCall .0 ≡ u .0 → SameAnswer (getD (played block xs) j noCall .1) (u .1)) noCall (played block ys) k
+        (all-at (λ o. Every (λ u. o .0 ≡ u .0 → SameAnswer (o .1) (u .1)) (played block ys)) noCall (played block xs) j (s .same) (in-first j hj)) (in-second k hk)
+        (ap (λ (o : List ℕ × Outcome). o .0) (played-at block xs j (omega (arith, hj, many-turns (messagesOf batch) rooms 0 p)) (turn-at (messagesOf batch) rooms 0 p j emptyCall hj))
         ∙ ap (numbered (messagesOf batch)) e
-        ∙ sym (ap (λ (o : List ℕ × Outcome). o .0) (played-at block ys k (omega (arith, hk, many-turns (messagesOf batch) more 0 q)) (turn-at (messagesOf batch) more 0 q k noneTurn hk))))
+        ∙ sym (ap (λ (o : List ℕ × Outcome). o .0) (played-at block ys k (omega (arith, hk, many-turns (messagesOf batch) more 0 q)) (turn-at (messagesOf batch) more 0 q k emptyCall hk))))
 
     pub alike : Alike p q first second rooms-after more-after one-after other-after
     alike =
         record {
-          first-answered = λ k h. ap (λ (o : Outcome). o .number) (u .each k h) ∙ all-at (λ o. o .1 .number ≡ 0) noTurn (played block xs) k (s .first-answered) (in-first k h);
-          second-answered = λ k h. ap (λ (o : Outcome). o .number) (v .each k h) ∙ all-at (λ o. o .1 .number ≡ 0) noTurn (played block ys) k (s .second-answered) (in-second k h);
+          first-answered = λ k h. ap (λ (o : Outcome). o .number) (u .each k h) ∙ all-at (λ o. o .1 .number ≡ 0) noCall (played block xs) k (s .first-answered) (in-first k h);
+          second-answered = λ k h. ap (λ (o : Outcome). o .number) (v .each k h) ∙ all-at (λ o. o .1 .number ≡ 0) noCall (played block ys) k (s .second-answered) (in-second k h);
           counts =
               λ j k hj hk e. ap (λ (o : Outcome). o .count) (u .each j hj) ∙ meets j k hj hk e .count ∙ sym (ap (λ (o : Outcome). o .count) (v .each k hk));
           octets =
@@ -301,7 +301,7 @@ module _ (block batch p q rooms more : List ℕ) {first second : List RbResult} 
 -- the check and the two plays
 pub two-orders : {one other batch p q rooms more rooms-after more-after one-after other-after : List ℕ} (r : TwoPlays) → ((i : ℕ) → getD batch i 0 < 256)
     → length p ≤ mostFrames → length q ≤ mostFrames → length rooms ≡ allRooms → length more ≡ allRooms
-    → r .verdict ≡ checkBatch one batch → InOrder one batch p rooms (r .first) rooms-after one-after → InOrder other batch q more (r .second) more-after other-after
+    → r .verdict ≡ checkBatch one batch → PlayedInOrder one batch p rooms (r .first) rooms-after one-after → PlayedInOrder other batch q more (r .second) more-after other-after
     → TwoOrders one other batch p q rooms more r rooms-after more-after one-after other-after
 two-orders {one} {other} {batch} {p} {q} {rooms} {more} {rooms-after} {more-after} {one-after} {other-after} r o hp hq lr lm e u v =
     record { checked = e; first = u; second = v; agree = agree }
@@ -310,7 +310,7 @@ two-orders {one} {other} {batch} {p} {q} {rooms} {more} {rooms-after} {more-afte
     agree c t dp dq =
         let a : Accepted one batch = accepts one batch .0 (sym e ∙ t) in
         let m : messagesOf batch ≡ a .messages = ap (λ (f : List (List ℕ) × ℕ). f .0) (a .framed) in
-        alike one batch p q rooms more u (subst (λ (b : List ℕ). InOrder b batch q more (r .second) more-after other-after) c v)
+        alike one batch p q rooms more u (subst (λ (b : List ℕ). PlayedInOrder b batch q more (r .second) more-after other-after) c v)
         (orders one batch o a (turnsOf batch p rooms) (turnsOf batch q more)
         (subst (λ (ms : List (List ℕ)). Plays ms (turnsOf batch p rooms)) m (plays-order batch p rooms lr hp dp))
         (subst (λ (ms : List (List ℕ)). Plays ms (turnsOf batch q more)) m (plays-order batch q more lm hq dq)))

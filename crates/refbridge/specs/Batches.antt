@@ -10,7 +10,7 @@ use Rattle.console.specs.Batch.{mostFrames, framesOf}
 use Rattle.batch.specs.declared.RbBatch.{RbBatch}
 use Rattle.batch.specs.Check.{accepted, checkBatch}
 use Rattle.batch.specs.Theorems.{numbered}
-use Rattle.batch.specs.Order.{Turn, played, left, SameAnswer}
+use Rattle.batch.specs.Order.{Call, played, left, SameAnswer}
 use Rattle.refbridge.specs.declared.RbResult.{RbResult}
 use Rattle.refbridge.specs.declared.batches.TwoPlays.{TwoPlays}
 use Rattle.refbridge.specs.Calls.{outcome}
@@ -28,19 +28,19 @@ abbrev pub allRooms : ℕ
 allRooms = mostOctets * mostFrames
 
 -- an order is a list of numbers of messages, from 1: turn k plays the message with the k-th number, and its answer goes to room k
-unfoldable pub turnsFrom : (ms : List (List ℕ)) (rooms : List ℕ) (k : ℕ) → (order : List ℕ) → List Turn
+unfoldable pub turnsFrom : (ms : List (List ℕ)) (rooms : List ℕ) (k : ℕ) → (order : List ℕ) → List Call
 turnsFrom ms rooms k [] = []
 turnsFrom ms rooms k (i ∷ is) = record { message = numbered ms i; room = roomAt rooms k } ∷ turnsFrom ms rooms (suc k) is
 
-abbrev pub turnsOf : (batch order rooms : List ℕ) → List Turn
+abbrev pub turnsOf : (batch order rooms : List ℕ) → List Call
 turnsOf batch order rooms = turnsFrom (messagesOf batch) rooms 0 order
 
 abbrev pub noResult : RbResult
 noResult = record { number = 0; count = 0; offset = 0 }
 
 -- what is left behind the last turn
-abbrev pub noTurn : List ℕ × Outcome
-noTurn = ([], record { number = 0; count = 0; offset = 0; room = []; block = [] })
+abbrev pub noCall : List ℕ × Outcome
+noCall = ([], record { number = 0; count = 0; offset = 0; room = []; block = [] })
 
 -- one turn: its result, with its room and the block afterwards, is the definition's, and the other rooms keep their octets
 pub record Turned (block message rooms : List ℕ) (k : ℕ) (r : RbResult) (rooms-after block-after : List ℕ) : Type 0 where
@@ -50,10 +50,10 @@ pub record Turned (block message rooms : List ℕ) (k : ℕ) (r : RbResult) (roo
 
 -- a batch played in an order: each turn's result, with its room afterwards, is what the definition gives of that turn (its block is the one that the turn
 -- leaves, which a host can read only before the next turn), and the block afterwards is what all turns leave
-pub record InOrder (block batch order rooms : List ℕ) (results : List RbResult) (rooms-after block-after : List ℕ) : Type 0 where
+pub record PlayedInOrder (block batch order rooms : List ℕ) (results : List RbResult) (rooms-after block-after : List ℕ) : Type 0 where
   pub each : (k : ℕ) → k < length order
       → outcome (getD results k noResult) (roomAt rooms-after k) (left block (take (suc k) (turnsOf batch order rooms)))
-      ≡ getD (played block (turnsOf batch order rooms)) k noTurn .1
+      ≡ getD (played block (turnsOf batch order rooms)) k noCall .1
   pub last : block-after ≡ left block (turnsOf batch order rooms)
 
 -- the numbers i, i + 1, .., n of them
@@ -78,7 +78,7 @@ pub record Alike (p q : List ℕ) (first second : List RbResult) (rooms more one
 -- the check accepts the batch, the two orders agree
 pub record TwoOrders (one other batch p q rooms more : List ℕ) (r : TwoPlays) (rooms-after more-after one-after other-after : List ℕ) : Type 0 where
   pub checked : r .verdict ≡ checkBatch one batch
-  pub first : InOrder one batch p rooms (r .first) rooms-after one-after
-  pub second : InOrder other batch q more (r .second) more-after other-after
+  pub first : PlayedInOrder one batch p rooms (r .first) rooms-after one-after
+  pub second : PlayedInOrder other batch q more (r .second) more-after other-after
   pub agree : other ≡ one → r .verdict ≡ accepted → IsOrder batch p → IsOrder batch q
       → Alike p q (r .first) (r .second) rooms-after more-after one-after other-after

@@ -5,7 +5,7 @@ ghost use Prim.Native.Nat.{_≤_, _<_};
 ghost use lib.ListN.{length, take, getD};
 ghost use Rattle.console.specs.Batch.{mostFrames, octetsAt, noSpan, Within};
 ghost use Rattle.batch.specs.Check.{checkBatch};
-ghost use Rattle.refbridge.specs.Batches.{allRooms, Turned, InOrder, TwoOrders};
+ghost use Rattle.refbridge.specs.Batches.{allRooms, Turned, PlayedInOrder, TwoOrders};
 use super::RbResult;
 use super::rb_answer;
 use batch::RbBatch;
@@ -66,7 +66,7 @@ fn play_turn(block: &mut [u8], batch: &[u8], s: Span, rooms: &mut [u8], k: usize
 // Plays a batch in an order: the messages by their numbers, from 1.
 pub fn play_batch(block: &mut [u8], batch: &[u8], order: &[u8], rooms: &mut [u8]) -> [RbResult; 64]
     requires { ⌜ (length (now order) ≤ mostFrames) × (length (now rooms) ≡ allRooms) ⌝ }
-    ensures { λ r. ⌜ InOrder (now (block .entry)) (now (batch .entry)) (now (order .entry)) (now (rooms .entry)) r (now (rooms .exit)) (now (block .exit)) ⌝ }
+    ensures { λ r. ⌜ PlayedInOrder (now (block .entry)) (now (batch .entry)) (now (order .entry)) (now (rooms .entry)) r (now (rooms .exit)) (now (block .exit)) ⌝ }
 {
     let frames = frames_of(batch);
     let spans = frames.spans;

@@ -10,7 +10,7 @@ use lib.Dec.{leb, ltb, eqb}
 use lib.ListN.{length, getD, drop, replicate, length-append}
 use Rattle.octets.specs.Numbers.{beAt}
 use Rattle.octets.proofs.NumberLaws.{Octets}
-use Rattle.names.specs.SubIds.{subids, nameOctets, Fits}
+use Rattle.names.specs.SubIds.{subids, nameOctets, SubIdsFit}
 use Rattle.names.proofs.SubIdLaws.{subids-step, subids-count, nameOctets-subids, subids-fit}
 use Rattle.message.specs.declared.form.Role.the-variants.{Answered}
 use Rattle.message.specs.Form.{tagAllowed, contentLength}
@@ -197,11 +197,11 @@ unfolding numbersOctets endsFrom
 numbers-end [] w = refl
 numbers-end (n ∷ ns) w = base128-ends n (numbersOctets ns) (w .0) ∙ numbers-end ns (w .1)
 
-pub fits-short : (ns : List ℕ) → Fits ns → Short ns
+pub fits-short : (ns : List ℕ) → SubIdsFit ns → Short ns
 fits-short [] w = tt
 fits-short (n ∷ ns) w = (omega (arith, w .0), fits-short ns (w .1))
 
-fits-below : (ns : List ℕ) → Fits ns → allBelow (2 ^ 32) ns ≡ true
+fits-below : (ns : List ℕ) → SubIdsFit ns → allBelow (2 ^ 32) ns ≡ true
 unfolding allBelow
 fits-below [] w = refl
 fits-below (n ∷ ns) w = rw (lt-ltb n (2 ^ 32) (w .0)) (fits-below ns (w .1))
@@ -243,7 +243,7 @@ name-back name o l m f w =
     let y : ℕ = beAt name (0 + 4) 4 in
     let ys : List ℕ = subids (drop (0 + 4 + 4) name) in
     let split : subids name ≡ x ∷ y ∷ ys = subids-step name 0 (omega arith) ∙ ap (λ (u : List ℕ). x ∷ u) (subids-step name (0 + 4) (omega arith)) in
-    let n : Fits (x ∷ y ∷ ys) = subst Fits split (subids-fit name o) in
+    let n : SubIdsFit (x ∷ y ∷ ys) = subst SubIdsFit split (subids-fit name o) in
     let (low, back) = first-back x y w in
     let short : Short ((40 * x + y) ∷ ys) = (omega (arith, n .1 .0), fits-short ys (n .1 .1)) in
     let one : firstOne (subids name) ≡ (40 * x + y) ∷ ys = ap firstOne split in

@@ -21,10 +21,10 @@ use Rattle.message.specs.Request.{kindAllowed, statusAllowed, contentRole}
 use Rattle.message.specs.Answer.{Bound, bound, mostOctets}
 use Rattle.message.specs.Theorems as form
 use Rattle.message.proofs.FormLaws.{clash}
-use Rattle.ber.specs.declared.Found.{Found}
-use Rattle.ber.specs.declared.Found.the-variants.{At}
+use Rattle.ber.specs.declared.PartRead.{PartRead}
+use Rattle.ber.specs.declared.PartRead.the-variants.{At}
 use Rattle.datagram.specs.declared.reading.Opening.{Opening}
-use Rattle.datagram.specs.declared.reading.Head.{Head}
+use Rattle.datagram.specs.declared.reading.PduHead.{PduHead}
 use Rattle.datagram.specs.declared.reading.BerBinding.{BerBinding}
 use Rattle.ber.specs.Ber.{lengthOctets, lengthSaid, fieldAt, partAt, numberAt, fewest, isNumber, unsigned8, four, subIds, nameWhole, nameFits, contentTag, contentJudged, contentOctets}
 use Rattle.datagram.specs.Reading.{takesOf, pduTaken, pduIn, communityIn, versionIn, openingOf, statusJudged, statusAt, lastAt, listIn, indexIn, statusIn, headIn, contentIn, nameIn, bindingAt, all, bindingsFrom, DatagramRead, pduOf, readDatagram, message, boundAt}
@@ -289,7 +289,7 @@ head-read : (kind : ℕ) (s : List ℕ) (at end i t x list len id status index t
     → fieldAt s at end ≡ Whole 0x02 i (length (shortened (beOctets 4 id))) → part s i (length (shortened (beOctets 4 id))) ≡ shortened (beOctets 4 id)
     → statusAt kind s (i + length (shortened (beOctets 4 id))) end ≡ At t tlen → lastAt s t tlen ≡ status
     → statusAt kind s (t + tlen) end ≡ At x xlen → lastAt s x xlen ≡ index
-    → fieldAt s (x + xlen) end ≡ Whole 0x30 list len → headIn kind s at end ≡ Head.Found id status index list (list + len)
+    → fieldAt s (x + xlen) end ≡ Whole 0x30 list len → headIn kind s at end ≡ PduHead.Found id status index list (list + len)
 unfolding headIn statusIn indexIn listIn
 head-read kind s at end i t x list len id status index tlen xlen k e p f a g b l =
     let c : List ℕ = beOctets 4 id in
@@ -307,7 +307,7 @@ head-read kind s at end i t x list len id status index tlen xlen k e p f a g b l
       part-here s (x + xlen) end 0x30 list len l,
     )
 
-pdu-read : (s : List ℕ) (kind community size at pdu end id status index from list : ℕ) (rs : List Binding) → headIn kind s at pdu ≡ Head.Found id status index from list
+pdu-read : (s : List ℕ) (kind community size at pdu end id status index from list : ℕ) (rs : List Binding) → headIn kind s at pdu ≡ PduHead.Found id status index from list
     → bindingsFrom kind s (length s) 16 from ≡ all rs → list ≡ length s → pdu ≡ length s → end ≡ length s → pduOf s kind community size at pdu end ≡ message kind id status index community size rs
 unfolding pduOf
 pdu-read s kind community size at pdu end id status index from list rs h b l p e =

@@ -28,7 +28,7 @@ use Rattle.message.specs.Request.{checkedThen, statusAllowed, statusOf, idOf, c
 use Rattle.message.specs.Answer.{Bound, mostOctets, boundAt}
 use Rattle.message.proofs.FormLaws.{InPlace, told, cond-cases, clash}
 use Rattle.message.proofs.BindingLaws.{content-brief}
-use Rattle.sending.specs.declared.response.Answers.{Answers}
+use Rattle.sending.specs.declared.response.ResponseRead.{ResponseRead}
 use Rattle.sending.specs.Writing.{lengthForm, headerForm, berOctets, shortened, nameBer, berTag, contentBer, bindingBer, bindingsBer, responseBer, responseFields, responseFront, datagramFields, datagramFront, datagramOctets, nameWritten, responseIn, responseAt, responsesFrom, responseHead, readResponse, answersOf, Writable, Ready, Put, notSent, sent, sentBy, toDatagram}
 use Rattle.sending.proofs.WriteLaws.{field-before, two-before, header-most, name-most, content-most, shortened-most, binding-is}
 use Rattle.datagram.proofs.PlaceLaws.{name-back}
@@ -392,16 +392,16 @@ module _ (s : List ℕ) where
   all-at (b ∷ bs) w (suc i) h = all-at bs (w .1) i (omega arith)
 
   -- what the code holds of the bindings
-  module _ {d : Answers} (q : d ≡ answersOf (responsesFrom s mostBindings headSize)) where
+  module _ {d : ResponseRead} (q : d ≡ answersOf (responsesFrom s mostBindings headSize)) where
     pub answers-refused : d .whole ≡ false → (responsesFrom s mostBindings headSize ≡ ended (d .refusal)) × (d .refusal .at ≤ length s + 16)
     answers-refused h = go (responsesFrom s mostBindings headSize) refl (bindings-tell 16 16) q
       where
         go : (x : Bindings) → responsesFrom s mostBindings headSize ≡ x → BindingsTell 16 16 x → d ≡ answersOf x → (responsesFrom s mostBindings headSize ≡ ended (d .refusal)) × (d .refusal .at ≤ length s + 16)
         go (ended r) e w f =
-            let z : d .refusal ≡ r = ap (λ (u : Answers). u .refusal) f in
+            let z : d .refusal ≡ r = ap (λ (u : ResponseRead). u .refusal) f in
             (e ∙ ap ended (sym z), rw z w)
         go (all bs) e w f =
-            let z : d .whole ≡ true = ap (λ (u : Answers). u .whole) f in
+            let z : d .whole ≡ true = ap (λ (u : ResponseRead). u .whole) f in
             clash (cc)
 
     pub answers-whole : d .whole ≡ true → (responsesFrom s mostBindings headSize ≡ all (take (d .count) (d .bindings))) × Ready s (d .bindings) (d .count)
@@ -409,11 +409,11 @@ module _ (s : List ℕ) where
       where
         go : (x : Bindings) → responsesFrom s mostBindings headSize ≡ x → BindingsTell 16 16 x → d ≡ answersOf x → (responsesFrom s mostBindings headSize ≡ all (take (d .count) (d .bindings))) × Ready s (d .bindings) (d .count)
         go (ended r) e w f =
-            let z : d .whole ≡ false = ap (λ (u : Answers). u .whole) f in
+            let z : d .whole ≡ false = ap (λ (u : ResponseRead). u .whole) f in
             clash (cc)
         go (all bs) e w f =
-            let n : d .count ≡ length bs = ap (λ (u : Answers). u .count) f in
-            let g : d .bindings ≡ bs ++ replicate (16 - length bs) noBinding = ap (λ (u : Answers). u .bindings) f in
+            let n : d .count ≡ length bs = ap (λ (u : ResponseRead). u .count) f in
+            let g : d .bindings ≡ bs ++ replicate (16 - length bs) noBinding = ap (λ (u : ResponseRead). u .bindings) f in
             let b : take (d .count) (d .bindings) ≡ bs = rw (g, n) (take-at bs (replicate (16 - length bs) noBinding) (length bs) refl) in (
               e ∙ ap all (sym b),
               record {

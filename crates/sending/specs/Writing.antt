@@ -18,8 +18,8 @@ use Rattle.message.specs.Form.{checkedAt, contentLength, refusal, atKindField, 
 use Rattle.message.specs.Request.{checkedThen, idOf, contentIn, seventeenth, Bindings, ended, all, bindingThen, Reading, refused, message, withBindings, headThen, noBinding}
 use Rattle.message.specs.Answer.{Bound, mostOctets, boundAt}
 use Rattle.ber.specs.Ber.{fewest}
-use Rattle.sending.specs.declared.response.Answers.{Answers}
-use Rattle.sending.specs.declared.Written.{Written}
+use Rattle.sending.specs.declared.response.ResponseRead.{ResponseRead}
+use Rattle.sending.specs.declared.DatagramWritten.{DatagramWritten}
 
 -- ## Fields, in the shortest form
 
@@ -151,7 +151,7 @@ abbrev pub noRefusal : Refusal
 noRefusal = refusal 0 0
 
 -- bindings as the code holds them: empty ones after them up to 16
-abbrev pub answersOf : Bindings → Answers
+abbrev pub answersOf : Bindings → ResponseRead
 answersOf (ended r) = record { whole = false; refusal = r; count = 0; bindings = replicate 16 noBinding }
 answersOf (all bs) = record { whole = true; refusal = noRefusal; count = length bs; bindings = bs ++ replicate (16 - length bs) noBinding }
 
@@ -203,5 +203,5 @@ toDatagram room community s =
     (cond (ltb mostOctets (length s)) (notSent 20 0 room) (sentBy room community s (readResponse s)))
 
 -- what a call that returned says
-abbrev pub sentAs : Written → List ℕ → Sent
+abbrev pub sentAs : DatagramWritten → List ℕ → Sent
 sentAs r room = record { number = r .number; count = r .count; offset = r .offset; room = room }

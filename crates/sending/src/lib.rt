@@ -24,7 +24,7 @@ use writing::header_before;
 use writing::number_before;
 
 // The number of a call, the datagram's length in the room, and where in the message a refusal arose.
-pub struct Written {
+pub struct DatagramWritten {
     pub number: u32,
     pub count: u32,
     pub offset: u32,
@@ -147,10 +147,10 @@ fn datagram_front(out: &mut [u8], p: usize, community: usize, rest: usize) -> us
     header_before(out, v, 0x30, p - v + (community + rest))
 }
 
-fn not_written(number: u32, offset: u32) -> Written
+fn not_written(number: u32, offset: u32) -> DatagramWritten
     ensures { λ r. ⌜ r ≡ record { number = number; count = 0; offset = offset } ⌝ }
 {
-    Written {
+    DatagramWritten {
         number,
         count: 0,
         offset,
@@ -188,7 +188,7 @@ fn send(
     index: u8,
     bindings: [Binding; 16],
     count: usize,
-) -> Written
+) -> DatagramWritten
     requires { ⌜ Ready (now s) bindings count × (mostOctets ≤ length (now room)) ⌝ }
     ensures { λ r. ⌜ sentAs r (now (room .exit)) ≡ sent (now (room .entry)) (datagramOctets (now (community .entry)) id status index (map (boundAt (now (s .entry))) (take count bindings))) ⌝ }
 {
@@ -214,7 +214,7 @@ fn send(
         bindings,
         count,
     );
-    Written {
+    DatagramWritten {
         number: 0,
         count: n as u32,
         offset: 0,
@@ -229,7 +229,7 @@ fn send_bindings(
     id: u32,
     status: u8,
     index: u8,
-) -> Written
+) -> DatagramWritten
     requires { ⌜ (length (now s) ≤ mostOctets) × (mostOctets ≤ length (now room)) ⌝ }
     ensures { λ r. ⌜ sentAs r (now (room .exit)) ≡ sentBy (now (room .entry)) (now (community .entry)) (now (s .entry)) (withBindings 2 id status index (responsesFrom (now (s .entry)) 16 16)) ⌝ }
 {
@@ -244,7 +244,7 @@ fn send_bindings(
 }
 
 // A response to a datagram.
-pub fn to_datagram(message: &[u8], community: &[u8], room: &mut [u8]) -> Written
+pub fn to_datagram(message: &[u8], community: &[u8], room: &mut [u8]) -> DatagramWritten
     ensures { λ r. ⌜ sentAs r (now (room .exit)) ≡ toDatagram (now (room .entry)) (now (community .entry)) (now (message .entry)) ⌝ }
 {
     if room.len() < MOST_OCTETS {

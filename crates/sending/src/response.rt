@@ -24,7 +24,7 @@ use message::request::seventeenth_at;
 use octets::numbers::be4;
 
 // The bindings of a response: the first count of the array, the others are empty; or, where they are not whole, a refusal.
-pub struct Answers {
+pub struct ResponseRead {
     pub whole: bool,
     pub refusal: Refusal,
     pub count: usize,
@@ -101,10 +101,10 @@ pub fn response_head(s: &[u8]) -> Head
     }
 }
 
-fn no_answers(r: Refusal) -> Answers
+fn no_answers(r: Refusal) -> ResponseRead
     ensures { λ q. ⌜ q ≡ answersOf (ended r) ⌝ }
 {
-    Answers {
+    ResponseRead {
         whole: false,
         refusal: r,
         count: 0,
@@ -113,7 +113,7 @@ fn no_answers(r: Refusal) -> Answers
 }
 
 // The bindings behind the head.
-pub fn read_answers(s: &[u8]) -> Answers
+pub fn read_answers(s: &[u8]) -> ResponseRead
     ensures { λ r. ⌜ r ≡ answersOf (responsesFrom (now (s .entry)) mostBindings headSize) ⌝ }
 {
     let mut bindings = [NO_BINDING; MOST_BINDINGS];
@@ -134,7 +134,7 @@ pub fn read_answers(s: &[u8]) -> Answers
             }
         }
     }
-    Answers {
+    ResponseRead {
         whole: true,
         refusal: NO_REFUSAL,
         count: n,

@@ -12,7 +12,7 @@ use lib.Seq.{take-all}
 use Rattle.octets.specs.Numbers.{beAt, beOctets}
 use Rattle.octets.proofs.NumberLaws.{Octets, beOctets-beAt}
 use Rattle.octets.proofs.BoolLaws.{both}
-use Rattle.names.specs.SubIds.{nameOctets, Fits}
+use Rattle.names.specs.SubIds.{nameOctets, SubIdsFit}
 use Rattle.names.proofs.SubIdLaws.{subids-nameOctets}
 use Rattle.message.specs.Form.{tagAllowed}
 use Rattle.message.specs.Request.{contentRole}
@@ -205,14 +205,14 @@ numbers-inverse acc (x ∷ xs) o e w =
         ∙ ap (λ (u : List ℕ). u ++ xs) (going-next acc x l (o 0) n (omega arith))
         ∙ append-assoc (goingOn 4 acc) (x ∷ []) xs
 
-pub below-fits : (ns : List ℕ) → allBelow (2 ^ 32) ns ≡ true → Fits ns
+pub below-fits : (ns : List ℕ) → allBelow (2 ^ 32) ns ≡ true → SubIdsFit ns
 unfolding allBelow
 below-fits [] e = tt
 below-fits (n ∷ ns) e =
     let (l, w) = both (ltb n (2 ^ 32)) (allBelow (2 ^ 32) ns) e in
     (ltb-true n (2 ^ 32) l, below-fits ns w)
 
-first-inverse : (ns : List ℕ) → Fits (firstTwo ns) → (firstOne (firstTwo ns) ≡ ns) × Short ns
+first-inverse : (ns : List ℕ) → SubIdsFit (firstTwo ns) → (firstOne (firstTwo ns) ≡ ns) × Short ns
 first-inverse [] w = (refl, tt)
 first-inverse (n ∷ ns) w =
     let (two, most) = first-small n in
@@ -224,7 +224,7 @@ pub name-inverse : (xs : List ℕ) → Octets xs → nameWhole xs ≡ true → n
 unfolding nameBer subIds nameWhole
 name-inverse xs o w f =
     let ns : List ℕ = numbersFrom 0 xs in
-    let fits : Fits (firstTwo ns) = below-fits (firstTwo ns) (name-below xs f .0) in
+    let fits : SubIdsFit (firstTwo ns) = below-fits (firstTwo ns) (name-below xs f .0) in
     let (back, short) = first-inverse ns fits in
     ap (λ (u : List ℕ). numbersOctets (firstOne u)) (subids-nameOctets (firstTwo ns) fits)
     ∙ ap numbersOctets back

@@ -13,16 +13,16 @@ use Rattle.message.specs.declared.form.Field.the-variants.{Cut, Whole}
 use Rattle.message.specs.Form.{tagAllowed}
 use Rattle.message.specs.Request.{contentRole}
 use Rattle.message.proofs.FormLaws.{cond-cases}
-use Rattle.ber.specs.declared.Found.{Found}
-use Rattle.ber.specs.declared.Found.the-variants.{Refused, At}
+use Rattle.ber.specs.declared.PartRead.{PartRead}
+use Rattle.ber.specs.declared.PartRead.the-variants.{Refused, At}
 use Rattle.datagram.specs.declared.reading.Opening.{Opening}
-use Rattle.datagram.specs.declared.reading.Head.{Head}
+use Rattle.datagram.specs.declared.reading.PduHead.{PduHead}
 use Rattle.datagram.specs.declared.reading.BerBinding.{BerBinding}
 use Rattle.ber.specs.Ber.{lengthOctets, fieldAt, fieldThen, foundThen, partAt, numberAt, isNumber, fewest, integer32, nameWhole, nameFits, contentTag, contentJudged}
 use Rattle.datagram.specs.Reading.{pduTaken, pduIn, communityIn, versionIn, openingOf, statusJudged, statusAt, listIn, indexIn, statusIn, headIn, contentIn, nameIn, bindingAt, seventeenth, Bindings, ended, all, prepend, berBindingThen, bindingsFrom, wholeOf, openingThen, headThen, DatagramRead, refused, message, pduOf, readDatagram}
 
 -- a refusal's number is not 0
-abbrev FoundSure : Found → Type 0
+abbrev FoundSure : PartRead → Type 0
 FoundSure (Refused n) = 0 < n
 FoundSure (At start len) = Unit {0}
 
@@ -30,9 +30,9 @@ abbrev OpeningSure : Opening → Type 0
 OpeningSure (Opening.Refused n) = 0 < n
 OpeningSure (Opening.Opened kind community size at pdu end) = Unit {0}
 
-abbrev HeadSure : Head → Type 0
-HeadSure (Head.Refused n) = 0 < n
-HeadSure (Head.Found id status index from list) = Unit {0}
+abbrev HeadSure : PduHead → Type 0
+HeadSure (PduHead.Refused n) = 0 < n
+HeadSure (PduHead.Found id status index from list) = Unit {0}
 
 abbrev BerBindingSure : BerBinding → Type 0
 BerBindingSure (BerBinding.Refused n) = 0 < n
@@ -50,7 +50,7 @@ field-sure : {A : Type 0} (P : A → Type 0) (f : Field) {stop : ℕ → A} {go 
 field-sure P Cut refuses finds = refuses 16 (omega arith)
 field-sure P (Whole tag start len) refuses finds = finds tag start len
 
-found-sure : {A : Type 0} (P : A → Type 0) (f : Found) {stop : ℕ → A} {go : ℕ → ℕ → A} → FoundSure f → ((n : ℕ) → 0 < n → P (stop n)) → ((start len : ℕ) → P (go start len)) → P (foundThen f stop go)
+found-sure : {A : Type 0} (P : A → Type 0) (f : PartRead) {stop : ℕ → A} {go : ℕ → ℕ → A} → FoundSure f → ((n : ℕ) → 0 < n → P (stop n)) → ((start len : ℕ) → P (go start len)) → P (foundThen f stop go)
 found-sure P (Refused n) w refuses finds = refuses n w
 found-sure P (At start len) w refuses finds = finds start len
 
@@ -141,10 +141,10 @@ module _ (s : List ℕ) where
       last kind id status index community size true (all bs) w = tt
       last kind id status index community size false (all bs) w = omega arith
 
-      mid : (kind community size pdu end : ℕ) (k : Head) → HeadSure k
+      mid : (kind community size pdu end : ℕ) (k : PduHead) → HeadSure k
           → DatagramSure (headThen k (λ id status index from list. wholeOf kind id status index community size (eqb list pdu && eqb pdu end && eqb end (length s)) (bindingsFrom kind s list 16 from)))
-      mid kind community size pdu end (Head.Refused n) w = w
-      mid kind community size pdu end (Head.Found id status index from list) w =
+      mid kind community size pdu end (PduHead.Refused n) w = w
+      mid kind community size pdu end (PduHead.Found id status index from list) w =
           last kind id status index community size (eqb list pdu && eqb pdu end && eqb end (length s)) (bindingsFrom kind s list 16 from) (bindings-sure kind list 16 from)
 
       go : (k : Opening) → OpeningSure k → DatagramSure (openingThen k (pduOf s))

@@ -22,10 +22,10 @@ use Rattle.message.specs.Form.{tagAllowed}
 use Rattle.message.specs.Request.{contentRole}
 use Rattle.message.specs.Answer.{Bound}
 use Rattle.message.proofs.FormLaws.{clash, cond-cases}
-use Rattle.ber.specs.declared.Found.{Found}
-use Rattle.ber.specs.declared.Found.the-variants.{Refused, At}
+use Rattle.ber.specs.declared.PartRead.{PartRead}
+use Rattle.ber.specs.declared.PartRead.the-variants.{Refused, At}
 use Rattle.datagram.specs.declared.reading.Opening.{Opening}
-use Rattle.datagram.specs.declared.reading.Head.{Head}
+use Rattle.datagram.specs.declared.reading.PduHead.{PduHead}
 use Rattle.datagram.specs.declared.reading.BerBinding.{BerBinding}
 use Rattle.ber.specs.Ber.{fieldAt, fieldThen, foundThen, partAt, numberAt, isNumber, fewest, four, integer32, nameWhole, nameFits, subIds, contentTag, contentJudged, contentOctets}
 use Rattle.datagram.specs.Reading.{pduTaken, pduIn, communityIn, versionIn, openingOf, statusJudged, statusAt, lastAt, listIn, indexIn, statusIn, headIn, contentIn, nameIn, bindingAt, Bindings, ended, all, prepend, berBindingThen, bindingsFrom, wholeOf, openingThen, headThen, DatagramRead, refused, message, pduOf, readDatagram, boundAt}
@@ -65,7 +65,7 @@ number-is s at end {start} {len} = go (partAt 0x02 s at end) refl
         (part-is 0x02 s at end (p ∙ e), rw (i, j) at q)
     test a n false p q e = clash (cc)
 
-    go : (f : Found) → partAt 0x02 s at end ≡ f → foundThen f Refused (λ a n. cond (fewest (part s a n)) (At a n) (Refused 16)) ≡ At start len
+    go : (f : PartRead) → partAt 0x02 s at end ≡ f → foundThen f Refused (λ a n. cond (fewest (part s a n)) (At a n) (Refused 16)) ≡ At start len
         → (fieldAt s at end ≡ Whole 0x02 start len) × (fewest (part s start len) ≡ true)
     go (Refused r) p e = clash (cc)
     go (At a n) p e = test a n (fewest (part s a n)) p refl e
@@ -82,7 +82,7 @@ status-is kind s at end {start} {len} = go (numberAt s at end)
         (e, rw (i, j) at (eqb-true (statusJudged kind (part s a n)) 0 q))
     test a n false q e = clash (cc)
 
-    go : (f : Found) → foundThen f Refused (λ a n. cond (eqb (statusJudged kind (part s a n)) 0) (At a n) (Refused (statusJudged kind (part s a n)))) ≡ At start len
+    go : (f : PartRead) → foundThen f Refused (λ a n. cond (eqb (statusJudged kind (part s a n)) 0) (At a n) (Refused (statusJudged kind (part s a n)))) ≡ At start len
         → (f ≡ At start len) × (statusJudged kind (part s start len) ≡ 0)
     go (Refused r) e = clash (cc)
     go (At a n) e = test a n (eqb (statusJudged kind (part s a n)) 0) refl e
@@ -179,9 +179,9 @@ module _ (s : List ℕ) (o : Octets s) where
   -- ## The head
 
   -- the head with a list of these contents
-  abbrev HeadShown : (at : ℕ) → Head → Type 0
-  HeadShown at (Head.Refused n) = Unit {0}
-  HeadShown at (Head.Found id status index from list) =
+  abbrev HeadShown : (at : ℕ) → PduHead → Type 0
+  HeadShown at (PduHead.Refused n) = Unit {0}
+  HeadShown at (PduHead.Found id status index from list) =
       (from ≤ list)
       × ((c : List ℕ) → Shown s from list c
       → Shown s at list (berOctets 0x02 (shortened (beOctets 4 id)) ++ (berOctets 0x02 (shortened (0 ∷ status ∷ [])) ++ (berOctets 0x02 (shortened (0 ∷ index ∷ [])) ++ berOctets 0x30 c))))
@@ -275,7 +275,7 @@ module _ (s : List ℕ) (o : Octets s) where
   DatagramShown (message kind id status index community size bs) = Shown s 0 (length s) (anyOctets kind (part s community size) id status index (map (boundAt s) bs))
 
   -- nothing is left over after the list, the PDU and the message
-  ended-shown : (kind id status index community size at pdu end from list : ℕ) → OpeningShown (Opening.Opened kind community size at pdu end) → HeadShown at (Head.Found id status index from list)
+  ended-shown : (kind id status index community size at pdu end from list : ℕ) → OpeningShown (Opening.Opened kind community size at pdu end) → HeadShown at (PduHead.Found id status index from list)
       → (b : Bool) → (eqb list pdu && eqb pdu end && eqb end (length s)) ≡ b → (x : Bindings) → BindingsShown from list x → DatagramShown (wholeOf kind id status index community size b x)
   unfolding anyOctets
   ended-shown kind id status index community size at pdu end from list w v b q (ended n) u = tt
@@ -292,10 +292,10 @@ module _ (s : List ℕ) (o : Octets s) where
   unfolding readDatagram pduOf
   datagram-shown answers = go (openingOf answers s) (opening-shown answers)
     where
-      mid : (kind community size at pdu end : ℕ) → OpeningShown (Opening.Opened kind community size at pdu end) → (k : Head) → HeadShown at k → HeadTells pdu k
+      mid : (kind community size at pdu end : ℕ) → OpeningShown (Opening.Opened kind community size at pdu end) → (k : PduHead) → HeadShown at k → HeadTells pdu k
           → DatagramShown (headThen k (λ id status index from list. wholeOf kind id status index community size (eqb list pdu && eqb pdu end && eqb end (length s)) (bindingsFrom kind s list 16 from)))
-      mid kind community size at pdu end w (Head.Refused n) v l = tt
-      mid kind community size at pdu end w (Head.Found id status index from list) v l =
+      mid kind community size at pdu end w (PduHead.Refused n) v l = tt
+      mid kind community size at pdu end w (PduHead.Found id status index from list) v l =
           ended-shown kind id status index community size at pdu end from list w v (eqb list pdu && eqb pdu end && eqb end (length s)) refl (bindingsFrom kind s list 16 from)
           (bindings-shown kind list (omega (arith, w .0, w .1)) 16 from (v .0))
 

@@ -10,7 +10,7 @@ use lib.ListN.{length, take, replicate, length-replicate}
 use Rattle.octets.specs.Numbers.{beAt, beOctets}
 use Rattle.octets.specs.Parts.{part, patch}
 use Rattle.octets.proofs.NumberLaws.{beAt-in, length-beOctets}
-use Rattle.names.specs.SubIds.{nameOctets, Fits}
+use Rattle.names.specs.SubIds.{nameOctets, SubIdsFit}
 use Rattle.names.proofs.SubIdLaws.{octets-name}
 use Rattle.message.specs.declared.request.Binding.{Binding}
 use Rattle.message.specs.Request as request
@@ -85,7 +85,7 @@ first-written n = go (ltb n 80) refl
         either false = refl
     go false q = refl
 
-two-written : (ns : List ℕ) → Fits (firstTwo ns) → 2 ≤ length (firstTwo ns) → nameWritten (nameOctets (firstTwo ns)) 0 ≡ true
+two-written : (ns : List ℕ) → SubIdsFit (firstTwo ns) → 2 ≤ length (firstTwo ns) → nameWritten (nameOctets (firstTwo ns)) 0 ≡ true
 unfolding nameWritten nameOctets
 two-written [] w h = absurd (omega arith)
 two-written (n ∷ ns) w h =

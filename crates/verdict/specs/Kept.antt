@@ -54,10 +54,10 @@ abbrev pub columnIn : ℕ → Holder
 columnIn i = cond (isColumn vlan i) (Rows vlan) (cond (isColumn static i) (Rows static) (cond (isColumn pair i) (Rows pair) Cells))
 
 -- the status that a number in a table's status column writes
-abbrev pub statusOf : (t : Table) → ℕ → Status t
-statusOf vlan x = cond (eqb x 1 || eqb x 2) (state x) (cond (eqb x 4) (create 1) (cond (eqb x 5) (create 2) destroy))
-statusOf static x = cond (eqb x 2) drop (keep x)
-statusOf pair x = cond (eqb x 3) unpaired (paired x)
+abbrev pub statusMeant : (t : Table) → ℕ → Status t
+statusMeant vlan x = cond (eqb x 1 || eqb x 2) (state x) (cond (eqb x 4) (create 1) (cond (eqb x 5) (create 2) destroy))
+statusMeant static x = cond (eqb x 2) drop (keep x)
+statusMeant pair x = cond (eqb x 3) unpaired (paired x)
 
 -- what the column at place i writes: v is the number or the port set of its content, xs are the content's octets
 abbrev pub fieldSaid : (t : Table) → (i v : ℕ) → List ℕ → Field t
@@ -66,7 +66,7 @@ fieldSaid static i v xs = allowed v
 fieldSaid pair i v xs = bridgeNumber v
 
 abbrev pub columnAt : (t : Table) → (i v : ℕ) → List ℕ → ColumnOf t
-columnAt t i v xs = cond (eqb i (statusPlace t)) (status (statusOf t v)) (field (fieldSaid t i v xs))
+columnAt t i v xs = cond (eqb i (statusPlace t)) (status (statusMeant t v)) (field (fieldSaid t i v xs))
 
 -- what the object at place i writes at the key k
 abbrev pub writtenTo : Holder → (i k v : ℕ) → List ℕ → Write
@@ -90,11 +90,11 @@ wrongly f = record { fault = f; value = 0 }
 abbrev pub rightly : ℕ → Said
 rightly v = record { fault = 0; value = v }
 
-abbrev pub numberSaid : ℕ → ℕ → ℕ → Said
-numberSaid e i v = cond (numberOk e i v) (rightly v) (wrongly 10)
+abbrev pub saidNumber : ℕ → ℕ → ℕ → Said
+saidNumber e i v = cond (numberOk e i v) (rightly v) (wrongly 10)
 
-abbrev pub portsSaid : Model → List ℕ → Said
-portsSaid m xs = cond (leb (length xs) 8) (cond (onlyTo 64 (m .ports) (setOf xs)) (rightly (setOf xs)) (wrongly 10)) (wrongly 8)
+abbrev pub saidPorts : Model → List ℕ → Said
+saidPorts m xs = cond (leb (length xs) 8) (cond (onlyTo 64 (m .ports) (setOf xs)) (rightly (setOf xs)) (wrongly 10)) (wrongly 8)
 
 -- a binding at fault as the code keeps it; one whose name has no index that the bridge can have, by what its content says; and one that names the instance of the
 -- object at place i that has the key k
@@ -153,8 +153,8 @@ isFieldOf t q = eqb (q .fault) 0 && (isColumn t (q .place) && not (eqb (q .place
 
 -- what a kept binding does to the row that it names in a table: its status makes the row, or removes it, or it writes another column
 abbrev pub does : Act → Table → Kept → Bool
-does Makes t q = isStatusOf t q && makes t (statusOf t (q .value))
-does Removes t q = isStatusOf t q && removes t (statusOf t (q .value))
+does Makes t q = isStatusOf t q && makes t (statusMeant t (q .value))
+does Removes t q = isStatusOf t q && removes t (statusMeant t (q .value))
 does Fills t q = isFieldOf t q
 
 -- is there a kept binding that does so to the row k of a table
@@ -165,11 +165,11 @@ isDone a t k (q ∷ qs) = (eqb k (q .key) && does a t q) || isDone a t k qs
 -- the rows of a table that kept bindings make and remove, by which keys are there: one number for each
 unfoldable pub made : (t : Table) → (there : ℕ → Bool) → List Kept → ℕ
 made t there [] = 0
-made t there (q ∷ qs) = cond (isStatusOf t q && (makes t (statusOf t (q .value)) && not (there (q .key)))) 1 0 + made t there qs
+made t there (q ∷ qs) = cond (isStatusOf t q && (makes t (statusMeant t (q .value)) && not (there (q .key)))) 1 0 + made t there qs
 
 unfoldable pub removed : (t : Table) → (there : ℕ → Bool) → List Kept → ℕ
 removed t there [] = 0
-removed t there (q ∷ qs) = cond (isStatusOf t q && (removes t (statusOf t (q .value)) && there (q .key))) 1 0 + removed t there qs
+removed t there (q ∷ qs) = cond (isStatusOf t q && (removes t (statusMeant t (q .value)) && there (q .key))) 1 0 + removed t there qs
 
 -- whether each growing table would have more rows than there is room for, and what this says of one of them
 abbrev pub fullIn : Content → List Judged → Full
@@ -210,14 +210,14 @@ ColumnFits pair (field (bridgeNumber x)) = x < 256
 abbrev pub OwnCell : (i k : ℕ) → Type 0
 OwnCell i k = (t : ℕ) → isTimer t ≡ true → eqb (cellOf i k) (cellOf t 0) ≡ eqb i t
 
-abbrev pub Fits : Judged → Type 0
-Fits (bad f g) = Unit {0}
-Fits (clean g (cell i k v)) = (i < objectCount) × (k < 1024) × (cellOf i k < manyCells) × (v < 2 ^ 32) × OwnCell i k
-Fits (clean g (row t k x)) = (k < keyRoom t) × ColumnFits t x
+abbrev pub JudgedFits : Judged → Type 0
+JudgedFits (bad f g) = Unit {0}
+JudgedFits (clean g (cell i k v)) = (i < objectCount) × (k < 1024) × (cellOf i k < manyCells) × (v < 2 ^ 32) × OwnCell i k
+JudgedFits (clean g (row t k x)) = (k < keyRoom t) × ColumnFits t x
 
 -- what the code asks of the first count kept bindings of a request s
 pub record KeptFit (s : List ℕ) (kept : List Kept) (count : ℕ) : Type 0 where
-  pub fits : (i : ℕ) (d : Kept) → i < count → Fits (meant s (getD kept i d))
+  pub fits : (i : ℕ) (d : Kept) → i < count → JudgedFits (meant s (getD kept i d))
   pub within : (i : ℕ) (d : Kept) → i < count → getD kept i d .at + getD kept i d .len ≤ length s
 
 -- what the code asks of the first count kept bindings before it reads timers from them: the number of a clean kept binding that writes a cell has room in four octets, and its

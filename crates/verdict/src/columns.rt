@@ -3,7 +3,7 @@ ghost use mathlib.Core.Path.{_≡_};
 ghost use mathlib.Core.Bool.{_||_};
 ghost use lib.Dec.{eqb};
 ghost use Rattle.answer.specs.Tables.{makes, removes, misplaced};
-ghost use Rattle.verdict.specs.Kept.{firstWritten, statusPlace, isColumn, columnIn, statusOf, isStatusOf, isFieldOf};
+ghost use Rattle.verdict.specs.Kept.{firstWritten, statusPlace, isColumn, columnIn, statusMeant, isStatusOf, isFieldOf};
 use super::judge::Kept;
 use block::tables::Table;
 use names::places::PAIR_BRIDGE_NUM;
@@ -81,7 +81,7 @@ pub fn is_field_of(t: Table, q: Kept) -> bool
 
 // Whether a number in a table's status column makes an absent row.
 pub fn makes_row(t: Table, v: u64) -> bool
-    ensures { λ r. ⌜ r ≡ makes t (statusOf t v) ⌝ }
+    ensures { λ r. ⌜ r ≡ makes t (statusMeant t v) ⌝ }
 {
     match t {
         Table::Vlan => (v == 4) | (v == 5),
@@ -99,7 +99,7 @@ fn states_vlan(v: u64) -> bool
 
 // Whether it removes a row.
 pub fn removes_row(t: Table, v: u64) -> bool
-    ensures { λ r. ⌜ r ≡ removes t (statusOf t v) ⌝ }
+    ensures { λ r. ⌜ r ≡ removes t (statusMeant t v) ⌝ }
 {
     match t {
         Table::Vlan => !(states_vlan(v) | makes_row(t, v)),
@@ -110,7 +110,7 @@ pub fn removes_row(t: Table, v: u64) -> bool
 
 // Whether it does not go with whether its row is there.
 pub fn is_misplaced(t: Table, v: u64, there: bool) -> bool
-    ensures { λ r. ⌜ r ≡ misplaced t (statusOf t v) there ⌝ }
+    ensures { λ r. ⌜ r ≡ misplaced t (statusMeant t v) there ⌝ }
 {
     match t {
         Table::Vlan => (makes_row(t, v) & there) | (states_vlan(v) & !there),

@@ -19,7 +19,7 @@ ghost use Rattle.block.specs.Tables.{rowsOf};
 ghost use Rattle.block.specs.declared.tables.Table.the-variants.{Vlan as vlan};
 ghost use Rattle.answer.specs.Tables.{statusStep, step, lacking, clash};
 ghost use Rattle.answer.specs.Set.{writesTo, fieldFault, statusFault, resulting, rowFault, isFull, resultingCells, cellFault, fault, verdict};
-ghost use Rattle.verdict.specs.Kept.{isColumn, statusOf, columnAt, meant, meantBy, does, isDone, fullIn, fullOf, setsOf, TimersFit};
+ghost use Rattle.verdict.specs.Kept.{isColumn, statusMeant, columnAt, meant, meantBy, does, isDone, fullIn, fullOf, setsOf, TimersFit};
 ghost use Rattle.verdict.specs.declared.faults.Act.the-variants.{Fills};
 use super::columns::Holder;
 use super::columns::column_in;
@@ -154,7 +154,7 @@ fn sets_before(block: &[u8], key: u64) -> Sets
 
 // What a number in RowStatus makes of them.
 fn with_status(sets: Sets, v: u64) -> Sets
-    ensures { λ r. ⌜ ((m : Model) (k : ℕ) (o : Option VlanRow) → sets ≡ setsOf o → r ≡ setsOf (statusStep m vlan k (statusOf vlan v) o)) ⌝ }
+    ensures { λ r. ⌜ ((m : Model) (k : ℕ) (o : Option VlanRow) → sets ≡ setsOf o → r ≡ setsOf (statusStep m vlan k (statusMeant vlan v) o)) ⌝ }
 {
     if removes_row(Table::Vlan, v) {
         return Sets {
@@ -239,7 +239,7 @@ fn field_fault(there: bool, made: bool, removed: bool, clash: bool) -> u8
 // Whether a number in a table's status column makes an absent row without a column that it needs: the bridge number of a pair (E12).
 fn lacks_column(kept: [Kept; 16], count: usize, t: Table, key: u64, v: u64, there: bool) -> bool
     requires { ⌜ count ≤ 16 ⌝ }
-    ensures { λ r. ⌜ r ≡ lacking t (statusOf t v) there (isDone Fills t key (take count kept)) ⌝ }
+    ensures { λ r. ⌜ r ≡ lacking t (statusMeant t v) there (isDone Fills t key (take count kept)) ⌝ }
 {
     match t {
         Table::Vlan => false,

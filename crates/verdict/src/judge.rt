@@ -7,7 +7,7 @@ ghost use Rattle.octets.specs.Parts.{part, same};
 ghost use Rattle.names.specs.Table.{objectCount};
 ghost use Rattle.answer.specs.Judge.{isWritable, contentSaid, alone};
 ghost use Rattle.answer.specs.Respond.{askedAt};
-ghost use Rattle.verdict.specs.Kept.{wrongly, rightly, numberSaid, portsSaid, contentSaidOf, keptFault, keptRowless, keptOf, meant, bare, meantBy, judgedIn, namedBefore, Stands, AllStand};
+ghost use Rattle.verdict.specs.Kept.{wrongly, rightly, saidNumber, saidPorts, contentSaidOf, keptFault, keptRowless, keptOf, meant, bare, meantBy, judgedIn, namedBefore, Stands, AllStand};
 use get::values::tag_of;
 ghost use Rattle.verdict.specs.declared.judge.Kept.{Kept};
 use answer::faults::GEN_ERR;
@@ -90,7 +90,7 @@ fn right(value: u64) -> Said
 // A number of the object at place i, in an edition: of the statuses in its range, RowStatus does not take 3.
 fn said_number(edition: u32, i: usize, v: u32) -> Said
     requires { ⌜ i < objectCount ⌝ }
-    ensures { λ r. ⌜ r ≡ numberSaid edition i v ⌝ }
+    ensures { λ r. ⌜ r ≡ saidNumber edition i v ⌝ }
 {
     let not_ready = (i == VLAN_ROW_STATUS) & (v == 3);
     if takes_value(edition, object(i), v) & !not_ready {
@@ -102,7 +102,7 @@ fn said_number(edition: u32, i: usize, v: u32) -> Said
 // A port set in len octets of the request from index at on.
 fn said_ports(m: Model, request: &[u8], at: usize, len: usize) -> Said
     requires { ⌜ (1 ≤ m .ports) × (m .ports ≤ 64) × (at + len ≤ length (now request)) ⌝ }
-    ensures { λ r. ⌜ r ≡ portsSaid m (part (now (request .entry)) at len) ⌝ }
+    ensures { λ r. ⌜ r ≡ saidPorts m (part (now (request .entry)) at len) ⌝ }
 {
     if 8 < len {
         return wrong(WRONG_LENGTH);

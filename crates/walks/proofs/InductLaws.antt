@@ -11,7 +11,7 @@ use Rattle.names.proofs.OrderLaws.{irrefl, trans}
 use Rattle.message.specs.Request.{bindingAt}
 use Rattle.message.specs.declared.request.BindingRead.{BindingRead}
 use Rattle.message.proofs.FormLaws.{clash}
-use Rattle.walks.specs.Walk.{Item, item, nameIn, Walk, faulty, whole, itemBefore, itemThen, notAscending, walkFrom}
+use Rattle.walks.specs.Walk.{Item, item, nameOf, Walk, faulty, whole, itemBefore, itemThen, notAscending, walkFrom}
 use Rattle.walks.specs.Merge.{onlyReference, onlyDevice, differing, Merged, merged, listed, merge, contrastOf}
 use Rattle.walks.specs.Theorems.{In, AllAbove, Ascending, names}
 use Rattle.names.specs.declared.order.Relation.{Relation}
@@ -83,10 +83,10 @@ item-up last x (whole ys) xs f h e =
 step-up : (s : List ℕ) (last : List ℕ) (at : ℕ) (k : BindingRead) (go : List ℕ → ℕ → Walk) (xs : List Item) → ((last′ : List ℕ) (at′ : ℕ) (ys : List Item) → go last′ at′ ≡ whole ys → Up last′ ys)
     → itemThen s last at k go ≡ whole xs → Up last xs
 step-up s last at (BindingRead.Refused r) go xs f e = clash (cc)
-step-up s last at (BindingRead.Bound b next) go xs f e = test (below last (nameIn s b)) refl e
+step-up s last at (BindingRead.Bound b next) go xs f e = test (below last (nameOf s b)) refl e
   where
-    test : (t : Bool) → below last (nameIn s b) ≡ t → cond t (itemBefore (item s at b) (go (nameIn s b) next)) (faulty notAscending) ≡ whole xs → Up last xs
-    test true h q = item-up last (item s at b) (go (nameIn s b) next) xs (f (nameIn s b) next) h q
+    test : (t : Bool) → below last (nameOf s b) ≡ t → cond t (itemBefore (item s at b) (go (nameOf s b) next)) (faulty notAscending) ≡ whole xs → Up last xs
+    test true h q = item-up last (item s at b) (go (nameOf s b) next) xs (f (nameOf s b) next) h q
     test false h q = clash (cc)
 
 end-up : (t : Bool) (w : Walk) (last : List ℕ) (xs : List Item) → (w ≡ whole xs → Up last xs) → cond t (whole []) w ≡ whole xs → Up last xs

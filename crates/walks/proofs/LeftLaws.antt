@@ -16,7 +16,7 @@ use Rattle.message.specs.declared.request.BindingRead.{BindingRead}
 use Rattle.message.proofs.BindingLaws.{Placed, stands}
 use Rattle.message.proofs.FormLaws.{clash}
 use Rattle.walks.specs.declared.walk.WalkJudged.{WalkJudged}
-use Rattle.walks.specs.Walk.{Item, item, nameIn, Walk, faulty, whole, itemBefore, itemThen, notAscending, walkFrom, walkOf, walkJudged}
+use Rattle.walks.specs.Walk.{Item, item, nameOf, Walk, faulty, whole, itemBefore, itemThen, notAscending, walkFrom, walkOf, walkJudged}
 use Rattle.walks.specs.Turn.{items}
 use Rattle.walks.specs.Compare.{startOf, outlasts}
 use Rattle.walks.proofs.WalkLaws.{from-end, from-step}
@@ -53,7 +53,7 @@ pub record Next (s : List ℕ) (at : ℕ) (xs : List Item) : Type 0 where
   pub place : Placed 3 s at binding next
 
 module _ {s : List ℕ} {at : ℕ} {xs : List Item} (w : Left s at xs) (h : at < length s) where
-  binding-left : (b : Binding) (next : ℕ) → bindingAt 3 s at ≡ BindingRead.Bound b next → (r : Walk) → walkFrom s (w .left - 1) (nameIn s b) next ≡ r
+  binding-left : (b : Binding) (next : ℕ) → bindingAt 3 s at ≡ BindingRead.Bound b next → (r : Walk) → walkFrom s (w .left - 1) (nameOf s b) next ≡ r
       → itemBefore (item s at b) r ≡ whole xs → Next s at xs
   binding-left b next e (faulty r) p q = clash (cc)
   binding-left b next e (whole ys) p q =
@@ -64,16 +64,16 @@ module _ {s : List ℕ} {at : ℕ} {xs : List Item} (w : Left s at xs) (h : at <
         tail = ys;
         bound = e;
         head = cc;
-        onward = record { last = nameIn s b; left = w .left - 1; enough = omega (arith, w .enough, v .goes); rest = p; inside = v .inside };
+        onward = record { last = nameOf s b; left = w .left - 1; enough = omega (arith, w .enough, v .goes); rest = p; inside = v .inside };
         place = v;
       }
 
   step-left : (k : BindingRead) → bindingAt 3 s at ≡ k → itemThen s (w .last) at k (walkFrom s (w .left - 1)) ≡ whole xs → Next s at xs
   step-left (BindingRead.Refused r) e p = clash (cc)
-  step-left (BindingRead.Bound b next) e p = go (below (w .last) (nameIn s b)) p
+  step-left (BindingRead.Bound b next) e p = go (below (w .last) (nameOf s b)) p
     where
-      go : (t : Bool) → cond t (itemBefore (item s at b) (walkFrom s (w .left - 1) (nameIn s b) next)) (faulty notAscending) ≡ whole xs → Next s at xs
-      go true q = binding-left b next e (walkFrom s (w .left - 1) (nameIn s b) next) refl q
+      go : (t : Bool) → cond t (itemBefore (item s at b) (walkFrom s (w .left - 1) (nameOf s b) next)) (faulty notAscending) ≡ whole xs → Next s at xs
+      go true q = binding-left b next e (walkFrom s (w .left - 1) (nameOf s b) next) refl q
       go false q = clash (cc)
 
   pub left-next : Next s at xs

@@ -25,7 +25,7 @@ use Rattle.message.specs.Request.{bindingAt}
 use Rattle.message.specs.declared.request.BindingRead.{BindingRead}
 use Rattle.message.proofs.BindingLaws.{Placed, stands}
 use Rattle.message.proofs.FormLaws.{clash}
-use Rattle.walks.specs.Walk.{Item, item, nameIn, Walk, faulty, whole, itemBefore, itemThen, notAscending, walkFrom, walkOf}
+use Rattle.walks.specs.Walk.{Item, item, nameOf, Walk, faulty, whole, itemBefore, itemThen, notAscending, walkFrom, walkOf}
 use Rattle.walks.specs.Contrast.{isPorts, portsPlace, shortString, portsColumn, portSets}
 use Rattle.walks.specs.Merge.{Entry, onlyReference, onlyDevice, differing, Merged, merged, listed, listedIf, merge, contrastOf, entryOctets, listOctets, kindOf, total}
 use Rattle.walks.specs.Compare.{CompareOutcome, refusedWith, startOf, outlasts, completed, walkThen, compared, listedIn, tailed}
@@ -44,7 +44,7 @@ step-more : (s last : List ℕ) (at : ℕ) (f g : List ℕ → ℕ → Walk) (k 
     → itemThen s last at k f ≡ itemThen s last at k g
 step-more s last at f g (BindingRead.Refused r) e h = refl
 step-more s last at f g (BindingRead.Bound b next) e h =
-    ap (λ (w : Walk). cond (below last (nameIn s b)) (itemBefore (item s at b) w) (faulty notAscending)) (h (nameIn s b) next (stands {k = bindingAt 3 s at} refl e .goes))
+    ap (λ (w : Walk). cond (below last (nameOf s b)) (itemBefore (item s at b) w) (faulty notAscending)) (h (nameOf s b) next (stands {k = bindingAt 3 s at} refl e .goes))
 
 pub read-whole : ReadWhole
 read-whole s last at zero more h k = from-end s zero last at (omega arith) ∙ sym (from-end s more last at (omega arith))

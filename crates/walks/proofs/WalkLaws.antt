@@ -15,7 +15,7 @@ use Rattle.message.specs.declared.request.Binding.{Binding}
 use Rattle.message.specs.declared.request.BindingRead.{BindingRead}
 use Rattle.message.proofs.BindingLaws.{BindingTells, stands}
 use Rattle.walks.specs.declared.walk.WalkJudged.{WalkJudged}
-use Rattle.walks.specs.Walk.{Item, item, nameIn, Walk, faulty, whole, itemBefore, itemThen, notAscending, walkFrom, walkOf, walkJudged}
+use Rattle.walks.specs.Walk.{Item, item, nameOf, Walk, faulty, whole, itemBefore, itemThen, notAscending, walkFrom, walkOf, walkJudged}
 
 module _ (s : List ℕ) where
   pub from-end : (left : ℕ) (last : List ℕ) (at : ℕ) → length s ≤ at → walkFrom s left last at ≡ whole []
@@ -55,14 +55,14 @@ module _ {s last : List ℕ} {at : ℕ} (w : Sofar s last at) where
     pub sofar-refused : {r : Refusal} → k ≡ BindingRead.Refused r → WalkJudged.Refused r ≡ walkJudged (walkOf s)
     sofar-refused f = rw f at turn
 
-    pub sofar-falls : {b : Binding} {next : ℕ} → k ≡ BindingRead.Bound b next → below last (nameIn s b) ≡ false → WalkJudged.Refused notAscending ≡ walkJudged (walkOf s)
+    pub sofar-falls : {b : Binding} {next : ℕ} → k ≡ BindingRead.Bound b next → below last (nameOf s b) ≡ false → WalkJudged.Refused notAscending ≡ walkJudged (walkOf s)
     sofar-falls f g = rw (f, g) at turn
 
-    pub sofar-more : {b : Binding} {next : ℕ} → k ≡ BindingRead.Bound b next → below last (nameIn s b) ≡ true → Sofar s (nameIn s b) next
+    pub sofar-more : {b : Binding} {next : ℕ} → k ≡ BindingRead.Bound b next → below last (nameOf s b) ≡ true → Sofar s (nameOf s b) next
     sofar-more {b} {next} f g =
-        let t : walkJudged (itemBefore (item s at b) (walkFrom s (w .left - 1) (nameIn s b) next)) ≡ walkJudged (walkOf s) = rw (f, g) at turn in
+        let t : walkJudged (itemBefore (item s at b) (walkFrom s (w .left - 1) (nameOf s b) next)) ≡ walkJudged (walkOf s) = rw (f, g) at turn in
         record {
           left = w .left - 1;
           enough = omega (arith, w .enough, stands e f .goes);
-          rest = sym (judged-before (item s at b) (walkFrom s (w .left - 1) (nameIn s b) next)) ∙ t;
+          rest = sym (judged-before (item s at b) (walkFrom s (w .left - 1) (nameOf s b) next)) ∙ t;
         }

@@ -3,7 +3,7 @@ use native.Mathlib.Omega.{arith}
 use borrow.Author.Needs.{needs}
 use mathlib.Core.Path.{refl, ap, _∙_}
 use Rattle.octets.specs.Parts.{patch}
-use Rattle.sending.specs.declared.Written.{Written}
+use Rattle.sending.specs.declared.DatagramWritten.{DatagramWritten}
 use Rattle.sending.specs.Writing.{sentAs}
 use Rattle.sending.proofs.SendLaws.{sent-community, sent-whole, measured-is, measured-over, parts-are, parts-fit, long-enough}
 use Rattle.sending.proofs.send.Statement.{statement}
@@ -18,7 +18,7 @@ not-written-requires c κs = search needs
 returns : tie.Need-returns
 returns c =
     let a = c .before .before .before .before .before .args in
-    ap (λ (u : Written). sentAs u (a .room .now)) (c .not-written .ensures) ∙ sent-community (a .room .now) (a .community .now) _ _ _ _ (omega arith)
+    ap (λ (u : DatagramWritten). sentAs u (a .room .now)) (c .not-written .ensures) ∙ sent-community (a .room .now) (a .community .now) _ _ _ _ (omega arith)
 
 bindings-size-requires : tie.Need-bindings-size-requires
 bindings-size-requires c κs = search needs
@@ -63,7 +63,7 @@ returns-2 c =
     let n = c .before .before .before .before .before .before .before .before .bindings-size .ensures .0 in
     let r = c .before .before .before .before .before .before .response-front .ensures .0 in
     let f = c .before .before .before .datagram-front .ensures .0 in
-    ap (λ (u : Written). sentAs u (a .room .now)) (c .not-written2 .ensures)
+    ap (λ (u : DatagramWritten). sentAs u (a .room .now)) (c .not-written2 .ensures)
     ∙ measured-over (a .community .now) _ _ _ _ n r refl f (a .room .now) (omega arith)
 
 sub-put-datagram : tie.Need-sub-put-datagram

@@ -1,7 +1,7 @@
 -- `sending::send_bindings` meets its contract. Assumes nothing.
 use native.Mathlib.Omega.{arith}
 use mathlib.Core.Path.{ap, _∙_}
-use Rattle.sending.specs.declared.Written.{Written}
+use Rattle.sending.specs.declared.DatagramWritten.{DatagramWritten}
 use Rattle.sending.specs.Writing.{sentAs}
 use Rattle.sending.proofs.SendLaws.{answers-whole, answers-refused, bindings-sent, bindings-refused}
 use borrow.Author.Needs.{needs}
@@ -35,7 +35,7 @@ not-written-requires c κs = search needs
 
 returns-2 : tie.Need-returns-2
 returns-2 c =
-    ap (λ (u : Written). sentAs u (c .before .before .before .before .before .before .before .before .before .args .room .now)) (c .not-written .ensures)
+    ap (λ (u : DatagramWritten). sentAs u (c .before .before .before .before .before .before .before .before .before .args .room .now)) (c .not-written .ensures)
     ∙ bindings-refused (c .before .before .before .before .before .before .before .before .before .args .room .now) (c .before .before .before .before .before .before .before .before .before .args .community .now) (c .before .before .before .before .before .before .before .before .before .args .s .now) _ _ _ (answers-refused (c .before .before .before .before .before .before .before .before .before .args .s .now) (c .before .before .before .before .before .read-answers .ensures) (c .before .before .before .before .if1 .left) .0)
 
 pub send-bindings-spec : {M : Type 1} → statement M

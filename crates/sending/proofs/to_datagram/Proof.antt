@@ -1,7 +1,7 @@
 -- `sending::to_datagram` meets its contract. Assumes nothing.
 use native.Mathlib.Omega.{arith}
 use mathlib.Core.Path.{ap, _∙_}
-use Rattle.sending.specs.declared.Written.{Written}
+use Rattle.sending.specs.declared.DatagramWritten.{DatagramWritten}
 use Rattle.sending.specs.Writing.{sentAs}
 use Rattle.sending.proofs.SendLaws.{call-short, call-long, call-refused, call-read, head-refused}
 use borrow.Author.Needs.{needs}
@@ -13,7 +13,7 @@ not-written-requires c κs = search needs
 
 returns : tie.Need-returns
 returns c =
-    ap (λ (u : Written). sentAs u (c .before .before .before .before .before .args .room .now)) (c .not-written .ensures) ∙ call-short (c .before .before .before .before .before .args .room .now) (c .before .before .before .before .before .args .community .now) (c .before .before .before .before .before .args .message .now) (omega arith)
+    ap (λ (u : DatagramWritten). sentAs u (c .before .before .before .before .before .args .room .now)) (c .not-written .ensures) ∙ call-short (c .before .before .before .before .before .args .room .now) (c .before .before .before .before .before .args .community .now) (c .before .before .before .before .before .args .message .now) (omega arith)
 
 cast-not-written : tie.Need-cast-not-written
 cast-not-written c = search needs
@@ -23,7 +23,7 @@ not-written-requires-2 c κs = search needs
 
 returns-2 : tie.Need-returns-2
 returns-2 c =
-    ap (λ (u : Written). sentAs u (c .before .before .before .before .before .before .args .room .now)) (c .not-written2 .ensures) ∙ call-long (c .before .before .before .before .before .before .args .room .now) (c .before .before .before .before .before .before .args .community .now) (c .before .before .before .before .before .before .args .message .now) (omega arith) (omega arith)
+    ap (λ (u : DatagramWritten). sentAs u (c .before .before .before .before .before .before .args .room .now)) (c .not-written2 .ensures) ∙ call-long (c .before .before .before .before .before .before .args .room .now) (c .before .before .before .before .before .before .args .community .now) (c .before .before .before .before .before .before .args .message .now) (omega arith) (omega arith)
 
 response-head-requires : tie.Need-response-head-requires
 response-head-requires c κs = search needs
@@ -49,7 +49,7 @@ send-bindings-requires c κs = search needs
 
 returns-3 : tie.Need-returns-3
 returns-3 c =
-    ap (λ (u : Written). sentAs u (c .before .before .before .before .before .before .before .before .before .before .before .before .args .room .now)) (c .not-written3 .ensures)
+    ap (λ (u : DatagramWritten). sentAs u (c .before .before .before .before .before .before .before .before .before .before .before .before .args .room .now)) (c .not-written3 .ensures)
     ∙ call-refused (c .before .before .before .before .before .before .before .before .before .before .before .before .args .room .now) (c .before .before .before .before .before .before .before .before .before .before .before .before .args .community .now) (c .before .before .before .before .before .before .before .before .before .before .before .before .args .message .now) (omega arith) (omega arith) (c .before .before .before .before .before .before .response-head .ensures) (c .before .before .before .before .r .given .1)
 
 same-length : tie.Need-same-length

@@ -17,7 +17,7 @@ use Rattle.block.specs.declared.rows.Place.the-variants.{At}
 use Rattle.block.specs.declared.tables.Table.{Table}
 use Rattle.block.specs.declared.tables.Table.the-variants.{Vlan as vlan, Static as static, Pair as pair}
 use Rattle.answer.specs.Tables.{ColumnOf, step, removes}
-use Rattle.verdict.specs.Kept.{statusPlace, statusOf, columnAt, ColumnFits}
+use Rattle.verdict.specs.Kept.{statusPlace, statusMeant, columnAt, ColumnFits}
 use Rattle.set.specs.Phases.{FitsRow}
 use Rattle.verdict.proofs.columns.ColumnLaws.{static-small, pair-small}
 use Rattle.set.proofs.WholeLaws.{whole-few, written-sized}
@@ -32,7 +32,7 @@ Asked t c =
     let a = c .args in
     FitsRow t (a .block .now) (a .request .now) (a .q)
     × (findKey (a .q .key) (keysOf (rowsOf t (contentOf (a .block .now)))) ≡ At (a .i))
-    × (a .q .place ≡ statusPlace t → removes t (statusOf t (a .q .value)) ≡ false)
+    × (a .q .place ≡ statusPlace t → removes t (statusMeant t (a .q .value)) ≡ false)
 
 asked : {t : Table} (c : tie.Start) → c .args .t ≡ t → Asked t c
 asked c e = subst (λ (u : Table). Asked u c) e (c .pre)

@@ -15,7 +15,7 @@ use Rattle.block.specs.declared.tables.Table.{Table}
 use Rattle.block.specs.declared.tables.Table.the-variants.{Vlan as vlan, Static as static, Pair as pair}
 use Rattle.answer.specs.Writes.{status}
 use Rattle.answer.specs.Tables.{statusStep, makes}
-use Rattle.verdict.specs.Kept.{statusOf, keyRoom, ColumnFits}
+use Rattle.verdict.specs.Kept.{statusMeant, keyRoom, ColumnFits}
 use Rattle.set.specs.Phases.{Written}
 use Rattle.verdict.proofs.columns.ColumnLaws.{static-small, state-small}
 use Rattle.set.proofs.WholeLaws.{written-sized}
@@ -30,8 +30,8 @@ Asked t c =
     let a = c .args in
     Written (a .block .now)
     × (a .key < keyRoom t)
-    × ColumnFits t (status (statusOf t (a .v)))
-    × (makes t (statusOf t (a .v)) ≡ true)
+    × ColumnFits t (status (statusMeant t (a .v)))
+    × (makes t (statusMeant t (a .v)) ≡ true)
     × (findKey (a .key) (keysOf (rowsOf t (contentOf (a .block .now)))) ≡ Absent (a .i))
     × (length (rowsOf t (contentOf (a .block .now))) < most t)
 
@@ -93,7 +93,7 @@ returns c =
     let a = c .before .before .before .before .before .before .before .before .before .before in
     let told = c .before .before .before .before .before .enum-told .given .1 in
     let p = asked a told in
-    let x = statusOf vlan (a .args .v) in
+    let x = statusMeant vlan (a .args .v) in
     rw told
     (insert-becomes vlan (p .0) (a .args .key) (status x) (p .1) (p .2) _ (p .4)
     (sym (c .before .before .before .made-vlan .ensures ∙ ap (λ (m : Model). statusStep m vlan (a .args .key) x none) (c .before .before .before .before .before .before .before .model .ensures)))
@@ -108,7 +108,7 @@ returns-2 c =
     let a = c .before .before .before .before .before .before .before .before .before .before in
     let told = c .before .before .before .before .before .enum-told2 .given .1 in
     let p = asked a told in
-    let x = statusOf static (a .args .v) in
+    let x = statusMeant static (a .args .v) in
     rw told
     (insert-becomes static (p .0) (a .args .key) (status x) (p .1) (p .2) _ (p .4)
     (sym (c .before .before .before .made-static .ensures (a .args .key) ∙ ap (λ (m : Model). statusStep m static (a .args .key) x none) (c .before .before .before .before .before .before .before .model .ensures)))
@@ -123,7 +123,7 @@ returns-3 c =
     let a = c .before .before .before .before .before .before .before .before .before .before in
     let told = c .before .before .before .before .before .enum-told3 .given .1 in
     let p = asked a told in
-    let x = statusOf pair (a .args .v) in
+    let x = statusMeant pair (a .args .v) in
     rw told
     (insert-becomes pair (p .0) (a .args .key) (status x) (p .1) (p .2) _ (p .4)
     (sym (c .before .before .before .made-pair .ensures (modelOf (contentOf (a .args .block .now))) (a .args .key)))

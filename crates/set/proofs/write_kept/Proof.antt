@@ -7,7 +7,7 @@ use Rattle.block.specs.Content.{cellPut}
 use Rattle.block.specs.Cells.{cellOf}
 use Rattle.block.specs.Image.{image, contentOf}
 use Rattle.answer.specs.Judge.{row, cell, clean}
-use Rattle.verdict.specs.Kept.{columnAt, meant, Fits}
+use Rattle.verdict.specs.Kept.{columnAt, meant, JudgedFits}
 use Rattle.verdict.proofs.columns.ColumnLaws.{column-of, kept-row, kept-cell}
 use Rattle.set.proofs.WholeLaws.{whole-cell, becomes, written-sized}
 use borrow.Author.Needs.{needs}
@@ -32,13 +32,13 @@ in-cell : (c : tie.After-enum-told) → let q = c .before .before .before .befor
 in-cell c = kept-cell (c .before .before .before .before .before .before .args .request .now) (c .before .before .before .before .before .before .args .q) (c .before .before .before .before .before .before .pre .1) (sym (c .before .before .column-in .ensures) ∙ c .enum-told .given .1)
 
 -- that it fits
-abbrev cell-fits : (c : tie.After-enum-told) → let q = c .before .before .before .before .before .before .args .q in Fits (clean (0, 0) (cell (q .place) (q .key) (q .value)))
-cell-fits c = subst Fits (in-cell c) (c .before .before .before .before .before .before .pre .2)
+abbrev cell-fits : (c : tie.After-enum-told) → let q = c .before .before .before .before .before .before .args .q in JudgedFits (clean (0, 0) (cell (q .place) (q .key) (q .value)))
+cell-fits c = subst JudgedFits (in-cell c) (c .before .before .before .before .before .before .pre .2)
 
 write-row-requires : tie.Need-write-row-requires
 write-row-requires c κs =
     let a = c .before .before .before .before .before .before .before .before in
-    let f = subst Fits (in-row (c .before)) (a .pre .2) in
+    let f = subst JudgedFits (in-row (c .before)) (a .pre .2) in
     record {
       written = a .pre .0;
       column = column-of _ (a .args .q .place) (sym (c .before .before .before .before .column-in .ensures) ∙ c .before .before .holder .given .1);

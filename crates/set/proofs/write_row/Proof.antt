@@ -15,7 +15,7 @@ use Rattle.block.specs.Lookup.{keysOf, findKey}
 use Rattle.block.specs.Tables.{rowsOf, most}
 use Rattle.block.specs.declared.rows.Place.the-variants.{At, Absent}
 use Rattle.answer.specs.Tables.{ColumnOf, makes, removes}
-use Rattle.verdict.specs.Kept.{statusPlace, statusOf, columnAt}
+use Rattle.verdict.specs.Kept.{statusPlace, statusMeant, columnAt}
 use Rattle.verdict.proofs.columns.ColumnLaws.{madeAt, column-drops, column-makes, column-none}
 use Rattle.set.proofs.WholeLaws.{whole-few, written-sized, written-ascends}
 use Rattle.set.proofs.FoundLaws.{noRow, found-inside, remove-becomes, stays}
@@ -44,11 +44,11 @@ absent c = sym (c .before .before .before .find-row .ensures) ∙ c .before .pla
 
 -- the tests, in the terms of the columns
 removing : (c : tie.After-removes-row) → let a = c .before .before .before .before .before .before .before .before .before .before .args in
-    eqb (a .q .place) (statusPlace (a .t)) && removes (a .t) (statusOf (a .t) (a .q .value)) ≡ eqb (a .q .place) (c .before .before .before .before .before .before .status-place .result) && c .removes-row .result
+    eqb (a .q .place) (statusPlace (a .t)) && removes (a .t) (statusMeant (a .t) (a .q .value)) ≡ eqb (a .q .place) (c .before .before .before .before .before .before .status-place .result) && c .removes-row .result
 removing c = ap₂ (λ (p : ℕ) (t : Bool). eqb (c .before .before .before .before .before .before .before .before .before .before .args .q .place) p && t) (sym (c .before .before .before .before .before .before .status-place .ensures)) (sym (c .removes-row .ensures))
 
 making : (c : tie.After-makes-row) → let a = c .before .before .before .before .before .before .before .before .before .before .args in
-    eqb (a .q .place) (statusPlace (a .t)) && makes (a .t) (statusOf (a .t) (a .q .value)) ≡ eqb (a .q .place) (c .before .before .before .before .before .before .status-place .result) && c .makes-row .result
+    eqb (a .q .place) (statusPlace (a .t)) && makes (a .t) (statusMeant (a .t) (a .q .value)) ≡ eqb (a .q .place) (c .before .before .before .before .before .before .status-place .result) && c .makes-row .result
 making c = ap₂ (λ (p : ℕ) (t : Bool). eqb (c .before .before .before .before .before .before .before .before .before .before .args .q .place) p && t) (sym (c .before .before .before .before .before .before .status-place .ensures)) (sym (c .makes-row .ensures))
 
 cast-states : tie.Need-cast-states
@@ -109,12 +109,12 @@ has-room-requires c κs = written-sized (c .before .before .before .before .befo
 -- the kept binding writes the status column, makes a row by it, and the table has room for the row
 made : (c : tie.Then2) → let a = c .before .before .before .before .before .before .before .before .before .before .before .before .before .args in
     (eqb (a .q .place) (statusPlace (a .t)) ≡ true)
-    × (makes (a .t) (statusOf (a .t) (a .q .value)) ≡ true)
+    × (makes (a .t) (statusMeant (a .t) (a .q .value)) ≡ true)
     × (length (rowsOf (a .t) (contentOf (a .block .now))) < most (a .t))
 made c =
     let a = c .before .before .before .before .before .before .before .before .before .before .before .before .before .args in
     let t = both (eqb (a .q .place) (c .before .before .before .before .before .before .before .before .before .status-place .result) && c .before .before .before .makes-row .result) (c .before .has-room .result) (c .if2 .taken) in
-    let m = both (eqb (a .q .place) (statusPlace (a .t))) (makes (a .t) (statusOf (a .t) (a .q .value))) (making (c .before .before .before) ∙ t .0) in
+    let m = both (eqb (a .q .place) (statusPlace (a .t))) (makes (a .t) (statusMeant (a .t) (a .q .value))) (making (c .before .before .before) ∙ t .0) in
     (m .0, m .1, ltb-true _ (most (a .t)) (sym (c .before .has-room .ensures) ∙ t .1))
 
 make-row-requires : tie.Need-make-row-requires
@@ -143,7 +143,7 @@ returns-4 c =
     let a = c .before .before .before .before .before .before .before .before .before .before .before .before .before in
     let t = a .args .t in
     let q = a .args .q in
-    stays t (a .pre .written) (q .key) (column a) (a .pre .keyFits) (a .pre .fits) (madeAt (bridge a) t (q .key) (q .value)) (eqb (q .place) (statusPlace t) && makes t (statusOf t (q .value))) (absent (c .before .before .before .before))
+    stays t (a .pre .written) (q .key) (column a) (a .pre .keyFits) (a .pre .fits) (madeAt (bridge a) t (q .key) (q .value)) (eqb (q .place) (statusPlace t) && makes t (statusMeant t (q .value))) (absent (c .before .before .before .before))
     (column-makes (bridge a) t (q .key) (q .value) (octets a) (q .place))
     (column-none (bridge a) t (q .key) (q .value) (octets a) (q .place))
     (ap₂ (λ (s t : Bool). s && t) (making (c .before .before .before)) (sym (c .before .has-room .ensures)) ∙ c .if2 .left)

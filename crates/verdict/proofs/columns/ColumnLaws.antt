@@ -22,7 +22,7 @@ use Rattle.answer.specs.Judge.{cell, row, clean}
 use Rattle.answer.specs.Set.{inTable, rowWrite, loses}
 use Rattle.answer.proofs.JudgeLaws.{in-table}
 use Rattle.answer.proofs.StoredLaws.{own-write}
-use Rattle.verdict.specs.Kept.{firstWritten, statusPlace, isColumn, columnIn, statusOf, columnAt, writtenTo, writtenAs, meant, ColumnFits}
+use Rattle.verdict.specs.Kept.{firstWritten, statusPlace, isColumn, columnIn, statusMeant, columnAt, writtenTo, writtenAs, meant, ColumnFits}
 use Rattle.verdict.specs.declared.columns.Holder.{Holder}
 use Rattle.verdict.specs.declared.columns.Holder.the-variants.{Cells, Rows}
 use Rattle.verdict.specs.declared.judge.Kept.{Kept}
@@ -109,25 +109,25 @@ by-row-status v a b c d e =
     (λ p. by-eq v 2 b (λ q. by-eq v 4 c (λ r. by-eq v 5 d (λ t. e (ne-eqb v 1 p, ne-eqb v 2 q, ne-eqb v 4 r, ne-eqb v 5 t)))))
 
 -- what a number in a status column makes, removes and is at fault for
-pub makes-vlan : (v : ℕ) → makes vlan (statusOf vlan v) ≡ (eqb v 4 || eqb v 5)
+pub makes-vlan : (v : ℕ) → makes vlan (statusMeant vlan v) ≡ (eqb v 4 || eqb v 5)
 makes-vlan v = by-row-status v (λ i. rw i) (λ i. rw i) (λ i. rw i) (λ i. rw i) (λ n. rw (n .0, n .1, n .2, n .3))
 
-pub makes-static : (v : ℕ) → makes static (statusOf static v) ≡ not (eqb v 2)
+pub makes-static : (v : ℕ) → makes static (statusMeant static v) ≡ not (eqb v 2)
 makes-static v = by-bool (eqb v 2) (λ e. rw e) (λ e. rw e)
 
-pub removes-vlan : (v : ℕ) → removes vlan (statusOf vlan v) ≡ not ((eqb v 1 || eqb v 2) || makes vlan (statusOf vlan v))
+pub removes-vlan : (v : ℕ) → removes vlan (statusMeant vlan v) ≡ not ((eqb v 1 || eqb v 2) || makes vlan (statusMeant vlan v))
 removes-vlan v = by-row-status v (λ i. rw i) (λ i. rw i) (λ i. rw i) (λ i. rw i) (λ n. rw (n .0, n .1, n .2, n .3))
 
-pub removes-static : (v : ℕ) → removes static (statusOf static v) ≡ eqb v 2
+pub removes-static : (v : ℕ) → removes static (statusMeant static v) ≡ eqb v 2
 removes-static v = by-bool (eqb v 2) (λ e. rw e) (λ e. rw e)
 
-pub makes-pair : (v : ℕ) → makes pair (statusOf pair v) ≡ not (eqb v 3)
+pub makes-pair : (v : ℕ) → makes pair (statusMeant pair v) ≡ not (eqb v 3)
 makes-pair v = by-bool (eqb v 3) (λ e. rw e) (λ e. rw e)
 
-pub removes-pair : (v : ℕ) → removes pair (statusOf pair v) ≡ eqb v 3
+pub removes-pair : (v : ℕ) → removes pair (statusMeant pair v) ≡ eqb v 3
 removes-pair v = by-bool (eqb v 3) (λ e. rw e) (λ e. rw e)
 
-pub misplaced-vlan : (v : ℕ) (p : Bool) → misplaced vlan (statusOf vlan v) p ≡ ((makes vlan (statusOf vlan v) && p) || ((eqb v 1 || eqb v 2) && not p))
+pub misplaced-vlan : (v : ℕ) (p : Bool) → misplaced vlan (statusMeant vlan v) p ≡ ((makes vlan (statusMeant vlan v) && p) || ((eqb v 1 || eqb v 2) && not p))
 misplaced-vlan v true = by-row-status v (λ i. rw i) (λ i. rw i) (λ i. rw i) (λ i. rw i) (λ n. rw (n .0, n .1, n .2, n .3))
 misplaced-vlan v false = by-row-status v (λ i. rw i) (λ i. rw i) (λ i. rw i) (λ i. rw i) (λ n. rw (n .0, n .1, n .2, n .3))
 
@@ -155,7 +155,7 @@ madeAt m vlan k v = madeVlan m k (v - 3)
 madeAt m static k v = record { status = v; allowed = portsTo 64 (m .ports) }
 madeAt m pair k v = record { number = 0; state = v }
 
-pub status-made : (m : Model) (t : Table) (k v : ℕ) → makes t (statusOf t v) ≡ true → statusStep m t k (statusOf t v) none ≡ some (madeAt m t k v)
+pub status-made : (m : Model) (t : Table) (k v : ℕ) → makes t (statusMeant t v) ≡ true → statusStep m t k (statusMeant t v) none ≡ some (madeAt m t k v)
 status-made m vlan k v h =
     by-row-status v (λ i. absurd (false≢true (rw i at h))) (λ i. absurd (false≢true (rw i at h))) (λ i. rw i) (λ i. rw i)
     (λ n. absurd (false≢true (rw (n .0, n .1, n .2, n .3) at h)))
@@ -163,29 +163,29 @@ status-made m static k v h = rw (not-true (eqb v 2) (sym (makes-static v) ∙ h)
 status-made m pair k v h = rw (not-true (eqb v 3) (sym (makes-pair v) ∙ h))
 
 -- 4 and 5 make a VLAN row
-pub made-small : (v : ℕ) → makes vlan (statusOf vlan v) ≡ true → (4 ≤ v) × (v ≤ 5)
+pub made-small : (v : ℕ) → makes vlan (statusMeant vlan v) ≡ true → (4 ≤ v) × (v ≤ 5)
 made-small v h =
     by-row-status v (λ i. absurd (false≢true (rw i at h))) (λ i. absurd (false≢true (rw i at h))) (λ i. (omega arith, omega arith)) (λ i. (omega arith, omega arith))
     (λ n. absurd (false≢true (rw (n .0, n .1, n .2, n .3) at h)))
 
 -- the same of the column at place i
 module _ (m : Model) (t : Table) (k v : ℕ) (xs : List ℕ) (i : ℕ) where
-  pub column-drops : (o : Option (Row t)) → eqb i (statusPlace t) && removes t (statusOf t v) ≡ true → step m t k (columnAt t i v xs) o ≡ none
+  pub column-drops : (o : Option (Row t)) → eqb i (statusPlace t) && removes t (statusMeant t v) ≡ true → step m t k (columnAt t i v xs) o ≡ none
   column-drops o h =
-      let p = both (eqb i (statusPlace t)) (removes t (statusOf t v)) h in
-      rw (p .0) (status-drops m t k (statusOf t v) o (p .1))
+      let p = both (eqb i (statusPlace t)) (removes t (statusMeant t v)) h in
+      rw (p .0) (status-drops m t k (statusMeant t v) o (p .1))
 
-  pub column-makes : eqb i (statusPlace t) && makes t (statusOf t v) ≡ true → step m t k (columnAt t i v xs) none ≡ some (madeAt m t k v)
+  pub column-makes : eqb i (statusPlace t) && makes t (statusMeant t v) ≡ true → step m t k (columnAt t i v xs) none ≡ some (madeAt m t k v)
   column-makes h =
-      let p = both (eqb i (statusPlace t)) (makes t (statusOf t v)) h in
+      let p = both (eqb i (statusPlace t)) (makes t (statusMeant t v)) h in
       rw (p .0) (status-made m t k v (p .1))
 
-  pub column-none : eqb i (statusPlace t) && makes t (statusOf t v) ≡ false → step m t k (columnAt t i v xs) none ≡ none
+  pub column-none : eqb i (statusPlace t) && makes t (statusMeant t v) ≡ false → step m t k (columnAt t i v xs) none ≡ none
   column-none h =
       by-bool (eqb i (statusPlace t))
       (λ e.
-      let q : makes t (statusOf t v) ≡ false = rw e at h in
-      rw e (status-none m t k (statusOf t v) q))
+      let q : makes t (statusMeant t v) ≡ false = rw e at h in
+      rw e (status-none m t k (statusMeant t v) q))
       (λ e. rw e)
 
 -- a VLAN row with another status
@@ -193,32 +193,32 @@ abbrev stated : ℕ → VlanRow → VlanRow
 stated s r = record { status = s; len = r .len; name = r .name; egress = r .egress; forbidden = r .forbidden; untagged = r .untagged }
 
 -- 1 and 2 set the status of a row that is there, 4 and 5 leave it
-pub vlan-stated : (m : Model) (k v : ℕ) (xs : List ℕ) (r : VlanRow) → removes vlan (statusOf vlan v) ≡ false
+pub vlan-stated : (m : Model) (k v : ℕ) (xs : List ℕ) (r : VlanRow) → removes vlan (statusMeant vlan v) ≡ false
     → step m vlan k (columnAt vlan vlanRowStatus v xs) (some r) ≡ some (cond (leb v 2) (stated v r) r)
 vlan-stated m k v xs r h =
     by-row-status v (λ i. rw i) (λ i. rw i) (λ i. rw i) (λ i. rw i) (λ n. absurd (true≢false (rw (n .0, n .1, n .2, n .3) at h)))
 
 -- an active row is active no more after 2 and after a number that removes it
 pub loses-is : (m : Model) (k : ℕ) (r : VlanRow) (v : ℕ)
-    → loses m k (status (statusOf vlan v)) (some r) ≡ (eqb (r .status) 1 && (eqb v 2 || removes vlan (statusOf vlan v)))
+    → loses m k (status (statusMeant vlan v)) (some r) ≡ (eqb (r .status) 1 && (eqb v 2 || removes vlan (statusMeant vlan v)))
 loses-is m k r v =
     let same : (eqb (r .status) 1 && not (eqb (r .status) 1)) ≡ (eqb (r .status) 1 && false) =
     and-not-self (eqb (r .status) 1) ∙ sym (and-false (eqb (r .status) 1)) in
     by-row-status v (λ i. rw i) (λ i. rw i) (λ i. rw i same) (λ i. rw i same) (λ n. rw (n .0, n .1, n .2, n .3))
 
 -- a number in static Status that has room, and one that does not remove
-pub static-small : (v : ℕ) → ColumnFits static (status (statusOf static v)) → v < 256
+pub static-small : (v : ℕ) → ColumnFits static (status (statusMeant static v)) → v < 256
 static-small v h = by-bool (eqb v 2) (λ q. omega (arith, eqb-true v 2 q)) (λ q. rw q at h)
 
-pub static-stays : (v : ℕ) → removes static (statusOf static v) ≡ false → eqb v 2 ≡ false
+pub static-stays : (v : ℕ) → removes static (statusMeant static v) ≡ false → eqb v 2 ≡ false
 static-stays v h = sym (removes-static v) ∙ h
 
 -- the same of a pair
-pub state-small : (v : ℕ) → ColumnFits pair (status (statusOf pair v)) → v < 256
+pub state-small : (v : ℕ) → ColumnFits pair (status (statusMeant pair v)) → v < 256
 state-small v h = by-bool (eqb v 3) (λ q. omega (arith, eqb-true v 3 q)) (λ q. rw q at h)
 
 pub pair-small : (i v : ℕ) (xs : List ℕ) → ColumnFits pair (columnAt pair i v xs) → v < 256
 pair-small i v xs h = by-bool (eqb i pairBridgeState) (λ e. state-small v (rw e at h)) (λ e. rw e at h)
 
-pub pair-stays : (v : ℕ) → removes pair (statusOf pair v) ≡ false → eqb v 3 ≡ false
+pub pair-stays : (v : ℕ) → removes pair (statusMeant pair v) ≡ false → eqb v 3 ≡ false
 pair-stays v h = sym (removes-pair v) ∙ h

@@ -22,7 +22,7 @@ use Rattle.block.specs.declared.tables.Table.the-variants.{Vlan as vlan, Static
 use Rattle.answer.specs.Tables.{ColumnOf, makes, removes, misplaced, lacking, clash, clashes}
 use Rattle.answer.specs.Judge.{Judged}
 use Rattle.answer.specs.Set.{writesTo, fieldFault, statusFault, resulting, rowFault, isFull, fault, firstFault}
-use Rattle.verdict.specs.Kept.{statusPlace, isColumn, statusOf, fieldSaid, columnAt, meant, fullIn, fullOf}
+use Rattle.verdict.specs.Kept.{statusPlace, isColumn, statusMeant, fieldSaid, columnAt, meant, fullIn, fullOf}
 use Rattle.verdict.specs.declared.judge.Kept.{Kept}
 use Rattle.verdict.proofs.PastEnd.{pastEnd}
 use Rattle.verdict.proofs.columns.ColumnLaws.{column-high}
@@ -30,7 +30,7 @@ use Rattle.verdict.proofs.columns.ColumnLaws.{column-high}
 -- the fault of a write to the column at place i
 module _ (m : Model) (t : Table) (f : Bool) (ws : List (ℕ × ColumnOf t)) (k i v : ℕ) (xs : List ℕ) (o : Option (Row t)) where
   pub status-fault : i ≡ statusPlace t
-      → rowFault m t f ws k (columnAt t i v xs) o ≡ statusFault (misplaced t (statusOf t v) (present o) || lacking t (statusOf t v) (present o) (has (λ c. not (isStatus c)) k ws)) (makes t (statusOf t v)) (present o) f
+      → rowFault m t f ws k (columnAt t i v xs) o ≡ statusFault (misplaced t (statusMeant t v) (present o) || lacking t (statusMeant t v) (present o) (has (λ c. not (isStatus c)) k ws)) (makes t (statusMeant t v)) (present o) f
   unfolding rowFault
   status-fault p = rw (p, eq-eqb (statusPlace t) (statusPlace t) refl)
 

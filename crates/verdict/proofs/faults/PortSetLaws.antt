@@ -18,7 +18,7 @@ use Rattle.answer.specs.Writes.{status, field, isStatus, those, ordered, playRo
 use Rattle.block.specs.declared.tables.Table.the-variants.{Vlan as vlan}
 use Rattle.answer.specs.Tables.{ColumnOf, statusStep, step, makes, removes, clash}
 use Rattle.answer.specs.Set.{rowWrite, also, gather, writesTo, resulting}
-use Rattle.verdict.specs.Kept.{isColumn, statusOf, meant, isStatusOf, setsOf}
+use Rattle.verdict.specs.Kept.{isColumn, statusMeant, meant, isStatusOf, setsOf}
 use Rattle.verdict.specs.declared.judge.Kept.{Kept}
 use Rattle.verdict.specs.declared.faults.Sets.{Sets}
 use Rattle.verdict.proofs.PastEnd.{pastEnd}
@@ -54,7 +54,7 @@ row-append m k (w ∷ a) b o = row-append m k a b (cond (eqb k (w .0)) (step m v
 
 -- a status kept binding of the row changes it as its number says
 pub status-row : (m : Model) (s : List ℕ) (k : ℕ) (q : Kept) (o : Option VlanRow) → rowAfter m isStatus k (rowWrite vlan (meant s q)) o
-    ≡ cond (isStatusOf vlan q && eqb k (q .key)) (statusStep m vlan (q .key) (statusOf vlan (q .value)) o) o
+    ≡ cond (isStatusOf vlan q && eqb k (q .key)) (statusStep m vlan (q .key) (statusMeant vlan (q .value)) o) o
 unfolding those playRow
 status-row m s k q o =
     sym (row-turn m isStatus k [] (rowWrite vlan (meant s q)) o)
@@ -62,9 +62,9 @@ status-row m s k q o =
     ∙ by-bool (isStatusOf vlan q) (λ e. rw e) (λ e. rw e)
 
 -- what a number in RowStatus makes of Egress and Forbidden
-pub status-sets : (m : Model) (k v : ℕ) (o : Option VlanRow) → setsOf (statusStep m vlan k (statusOf vlan v) o)
-    ≡ cond (removes vlan (statusOf vlan v)) (setsOf none)
-    (record { there = setsOf o .there || makes vlan (statusOf vlan v); egress = setsOf o .egress; forbidden = setsOf o .forbidden })
+pub status-sets : (m : Model) (k v : ℕ) (o : Option VlanRow) → setsOf (statusStep m vlan k (statusMeant vlan v) o)
+    ≡ cond (removes vlan (statusMeant vlan v)) (setsOf none)
+    (record { there = setsOf o .there || makes vlan (statusMeant vlan v); egress = setsOf o .egress; forbidden = setsOf o .forbidden })
 status-sets m k v none = by-row-status v (λ i. rw i) (λ i. rw i) (λ i. rw i) (λ i. rw i) (λ n. rw (n .0, n .1, n .2, n .3))
 status-sets m k v (some r) = by-row-status v (λ i. rw i) (λ i. rw i) (λ i. rw i) (λ i. rw i) (λ n. rw (n .0, n .1, n .2, n .3))
 

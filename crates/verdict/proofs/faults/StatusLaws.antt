@@ -23,7 +23,7 @@ use Rattle.block.specs.Tables.{Row, rowsOf, most}
 use Rattle.block.specs.declared.tables.Table.{Table}
 use Rattle.answer.specs.Tables.{ColumnOf, makes, removes}
 use Rattle.answer.specs.Set.{rowWrite, also, gather, writesTo, isFull}
-use Rattle.verdict.specs.Kept.{statusPlace, isColumn, statusOf, columnAt, meant, isStatusOf, does, isDone, made, removed}
+use Rattle.verdict.specs.Kept.{statusPlace, isColumn, statusMeant, columnAt, meant, isStatusOf, does, isDone, made, removed}
 use Rattle.verdict.specs.declared.faults.Act.{Act}
 use Rattle.verdict.specs.declared.faults.Act.the-variants.{Makes, Removes, Fills}
 use Rattle.verdict.specs.declared.judge.Kept.{Kept}
@@ -32,7 +32,7 @@ use Rattle.verdict.proofs.columns.ColumnLaws.{status-elsewhere, write-o
 
 -- a kept binding adds a status where it is a clean one of the status column
 pub status-turn : (t : Table) (s : List ℕ) (q : Kept) (ws : List (ℕ × ColumnOf t)) → those isStatus (also (rowWrite t (meant s q)) ws)
-    ≡ cond (isStatusOf t q) ((q .key, status (statusOf t (q .value))) ∷ those isStatus ws) (those isStatus ws)
+    ≡ cond (isStatusOf t q) ((q .key, status (statusMeant t (q .value))) ∷ those isStatus ws) (those isStatus ws)
 unfolding those
 status-turn t s q ws =
     rw (write-of t s q)
@@ -105,7 +105,7 @@ module _ (t : Table) (s : List ℕ) where
 
   count-kept : (g : ℕ → ColumnOf t → Option (Row t) → Bool) (es : List (ℕ × Row t)) (f : List Kept → ℕ) → f [] ≡ 0
       → ((q : Kept) (qs : List Kept) → f (q ∷ qs)
-      ≡ cond (isStatusOf t q && g (q .key) (status (statusOf t (q .value))) (lookup (q .key) es)) 1 0 + f qs)
+      ≡ cond (isStatusOf t q && g (q .key) (status (statusMeant t (q .value))) (lookup (q .key) es)) 1 0 + f qs)
       → (qs : List Kept) → count g es (statuses qs) ≡ f qs
   unfolding gather those count
   count-kept g es f z h [] = sym z
@@ -150,14 +150,14 @@ module _ (t : Table) (there : ℕ → Bool) (live limit : ℕ) (qs : List Kept) 
   counted-none = record { rowsFit = omega arith; roomFits = omega arith; making = refl; removing = refl }
 
   pub counted-more : (i rows room : ℕ) → i < count → count ≤ length qs → Counted t there live limit qs count i rows room → (more less : ℕ)
-      → more ≡ rows + cond (isStatusOf t (getD qs i pastEnd) && (makes t (statusOf t (getD qs i pastEnd .value)) && not (there (getD qs i pastEnd .key)))) 1 0
-      → less ≡ room + cond (isStatusOf t (getD qs i pastEnd) && (removes t (statusOf t (getD qs i pastEnd .value)) && there (getD qs i pastEnd .key))) 1 0
+      → more ≡ rows + cond (isStatusOf t (getD qs i pastEnd) && (makes t (statusMeant t (getD qs i pastEnd .value)) && not (there (getD qs i pastEnd .key)))) 1 0
+      → less ≡ room + cond (isStatusOf t (getD qs i pastEnd) && (removes t (statusMeant t (getD qs i pastEnd .value)) && there (getD qs i pastEnd .key))) 1 0
       → Counted t there live limit qs count (i + 1) more less
   unfolding made removed
   counted-more i rows room h l c more less e f =
       let q : Kept = getD qs i pastEnd in
-      let m : Bool = isStatusOf t q && (makes t (statusOf t (q .value)) && not (there (q .key))) in
-      let r : Bool = isStatusOf t q && (removes t (statusOf t (q .value)) && there (q .key)) in
+      let m : Bool = isStatusOf t q && (makes t (statusMeant t (q .value)) && not (there (q .key))) in
+      let r : Bool = isStatusOf t q && (removes t (statusMeant t (q .value)) && there (q .key)) in
       record {
         rowsFit = omega (arith, one-or-none m);
         roomFits = omega (arith, one-or-none r);

@@ -25,7 +25,7 @@ use Rattle.block.specs.declared.tables.Table.the-variants.{Vlan as vlan, Static
 use Rattle.answer.specs.Tables.{egress, forbidden, untagged, allowed, bridgeNumber, ColumnOf, tableAt, statusSaid, integerSaid}
 use Rattle.answer.specs.Judge.{row, cell, ContentSaid, right, tagOf, unless, saidTo, valueIn, valueAt, lengthOk, isWritable, contentSaid}
 use Rattle.verdict.specs.declared.judge.Said.{Said}
-use Rattle.verdict.specs.Kept.{isColumn, writtenAs, contentSaidOf, wrongly, numberSaid, portsSaid}
+use Rattle.verdict.specs.Kept.{isColumn, writtenAs, contentSaidOf, wrongly, saidNumber, saidPorts}
 use Rattle.verdict.proofs.columns.ColumnLaws.{elsewhere}
 
 -- a test of every number below n
@@ -72,7 +72,7 @@ Means n i xs q = contentSaidOf i xs q ≡ unless (lengthOk (objectAt i) xs) 8 (v
 -- the port sets and the VLAN name, each at its place
 module _ (n : Model) (xs : List ℕ) where
   ports-say : (t : Table) (i : ℕ) (c : ColumnOf t) → ((k : ℕ) → writtenAs i k (setOf xs) xs ≡ row t k c)
-      → contentSaidOf i xs (portsSaid n xs) ≡ unless (leb (length xs) 8) 8 (saidTo t (cond (onlyTo 64 (n .ports) (setOf xs)) (some c) none))
+      → contentSaidOf i xs (saidPorts n xs) ≡ unless (leb (length xs) 8) 8 (saidTo t (cond (onlyTo 64 (n .ports) (setOf xs)) (some c) none))
   ports-say t i c e = go (leb (length xs) 8) (onlyTo 64 (n .ports) (setOf xs))
     where
       go : (a b : Bool) → contentSaidOf i xs (cond a (cond b (record { fault = 0; value = setOf xs }) (wrongly 10)) (wrongly 8))
@@ -81,19 +81,19 @@ module _ (n : Model) (xs : List ℕ) where
       go true false = refl
       go false b = refl
 
-  allowed-says : Means n staticAllowed xs (portsSaid n xs)
+  allowed-says : Means n staticAllowed xs (saidPorts n xs)
   unfolding objects
   allowed-says = ports-say static staticAllowed (field (allowed (setOf xs))) (λ k. refl)
 
-  egress-says : Means n vlanEgress xs (portsSaid n xs)
+  egress-says : Means n vlanEgress xs (saidPorts n xs)
   unfolding objects
   egress-says = ports-say vlan vlanEgress (field (egress (setOf xs))) (λ k. refl)
 
-  forbidden-says : Means n vlanForbidden xs (portsSaid n xs)
+  forbidden-says : Means n vlanForbidden xs (saidPorts n xs)
   unfolding objects
   forbidden-says = ports-say vlan vlanForbidden (field (forbidden (setOf xs))) (λ k. refl)
 
-  untagged-says : Means n vlanUntagged xs (portsSaid n xs)
+  untagged-says : Means n vlanUntagged xs (saidPorts n xs)
   unfolding objects
   untagged-says = ports-say vlan vlanUntagged (field (untagged (setOf xs))) (λ k. refl)
 
@@ -105,7 +105,7 @@ module _ (n : Model) (xs : List ℕ) where
 abbrev rangeSaid : ℕ → ℕ → Said
 rangeSaid i v = cond (inRange (objectAt i) v && not (eqb i vlanRowStatus && eqb v 3)) (record { fault = 0; value = v }) (wrongly 10)
 
-unstepped : (e i v : ℕ) → (i ≡ stpPriority → ⊥) → (i ≡ stpPortPriority → ⊥) → (i ≡ srPortLargestFrame → ⊥) → numberSaid e i v ≡ rangeSaid i v
+unstepped : (e i v : ℕ) → (i ≡ stpPriority → ⊥) → (i ≡ stpPortPriority → ⊥) → (i ≡ srPortLargestFrame → ⊥) → saidNumber e i v ≡ rangeSaid i v
 unstepped e i v p q f =
     ap (λ (t : Bool). cond (t && not (eqb i vlanRowStatus && eqb v 3)) (record { fault = 0; value = v }) (wrongly 10))
     (takes-unstepped e (objectAt i) v (step-is e (objectAt i) (plain-step i p q)) (plain-frames i f))
@@ -195,7 +195,7 @@ module _ (n : Model) (i : ℕ) (xs : List ℕ) (writable : isWritable (objectAt 
       go none e = refl
       go (some t) e = absurd (false≢true e)
 
-  cell-number : (v : ℕ) → contentSaidOf i xs (numberSaid (n .edition) i v) ≡ inCell v
+  cell-number : (v : ℕ) → contentSaidOf i xs (saidNumber (n .edition) i v) ≡ inCell v
   cell-number v = go (takes (n .edition) (objectAt i) v)
     where
       go : (t : Bool) → contentSaidOf i xs (cond (t && not (eqb i vlanRowStatus && eqb v 3)) (record { fault = 0; value = v }) (wrongly 10))
@@ -203,12 +203,12 @@ module _ (n : Model) (i : ℕ) (xs : List ℕ) (writable : isWritable (objectAt 
       go true = rw (elsewhere (isColumn vlan) i vlanRowStatus refl (out-of-rows .0), out-of-rows .0, out-of-rows .1, out-of-rows .2)
       go false = refl
 
-  cell-says : lengthOk (objectAt i) xs ≡ true → Means n i xs (numberSaid (n .edition) i (beAt xs 0 4))
+  cell-says : lengthOk (objectAt i) xs ≡ true → Means n i xs (saidNumber (n .edition) i (beAt xs 0 4))
   cell-says h = rw h (cell-number (beAt xs 0 4) ∙ sym cell-value)
 
 -- the same at any place for the type
 module _ (n : Model) (xs : List ℕ) where
-  ports-mean : (i : ℕ) → placeFor Ports i ≡ true → Means n i xs (portsSaid n xs)
+  ports-mean : (i : ℕ) → placeFor Ports i ≡ true → Means n i xs (saidPorts n xs)
   ports-mean i p =
       by-bool (eqb i staticAllowed) (λ e. rw (eqb-true i staticAllowed e) (allowed-says n xs))
       (λ a. by-bool (eqb i vlanEgress) (λ e. rw (eqb-true i vlanEgress e) (egress-says n xs))
@@ -217,29 +217,29 @@ module _ (n : Model) (xs : List ℕ) where
       let d : eqb i vlanUntagged ≡ true = rw (a, b, c) at p in
       rw (eqb-true i vlanUntagged d) (untagged-says n xs))))
 
-  row-status-says : Means n vlanRowStatus xs (numberSaid (n .edition) vlanRowStatus (beAt xs 0 4))
+  row-status-says : Means n vlanRowStatus xs (saidNumber (n .edition) vlanRowStatus (beAt xs 0 4))
   unfolding objects
   row-status-says =
       ap (contentSaidOf vlanRowStatus xs) (unstepped (n .edition) vlanRowStatus (beAt xs 0 4) (λ e. omega arith) (λ e. omega arith) (λ e. omega arith)) ∙ row-status xs (beAt xs 0 4)
 
-  static-status-says : Means n staticState xs (numberSaid (n .edition) staticState (beAt xs 0 4))
+  static-status-says : Means n staticState xs (saidNumber (n .edition) staticState (beAt xs 0 4))
   unfolding objects
   static-status-says =
       ap (contentSaidOf staticState xs) (unstepped (n .edition) staticState (beAt xs 0 4) (λ e. omega arith) (λ e. omega arith) (λ e. omega arith)) ∙ static-status xs (beAt xs 0 4)
 
-  pair-number-says : Means n pairBridgeNum xs (numberSaid (n .edition) pairBridgeNum (beAt xs 0 4))
+  pair-number-says : Means n pairBridgeNum xs (saidNumber (n .edition) pairBridgeNum (beAt xs 0 4))
   unfolding objects
   pair-number-says =
       ap (contentSaidOf pairBridgeNum xs) (unstepped (n .edition) pairBridgeNum (beAt xs 0 4) (λ e. omega arith) (λ e. omega arith) (λ e. omega arith))
       ∙ pair-number xs (beAt xs 0 4)
 
-  pair-state-says : Means n pairBridgeState xs (numberSaid (n .edition) pairBridgeState (beAt xs 0 4))
+  pair-state-says : Means n pairBridgeState xs (saidNumber (n .edition) pairBridgeState (beAt xs 0 4))
   unfolding objects
   pair-state-says =
       ap (contentSaidOf pairBridgeState xs) (unstepped (n .edition) pairBridgeState (beAt xs 0 4) (λ e. omega arith) (λ e. omega arith) (λ e. omega arith))
       ∙ pair-state xs (beAt xs 0 4)
 
-  number-means : (i : ℕ) → isWritable (objectAt i .access) ≡ true → i < objectCount → numberPlace i ≡ true → lengthOk (objectAt i) xs ≡ true → Means n i xs (numberSaid (n .edition) i (beAt xs 0 4))
+  number-means : (i : ℕ) → isWritable (objectAt i .access) ≡ true → i < objectCount → numberPlace i ≡ true → lengthOk (objectAt i) xs ≡ true → Means n i xs (saidNumber (n .edition) i (beAt xs 0 4))
   number-means i w here p h =
       by-bool (eqb i staticState) (λ e. rw (eqb-true i staticState e) static-status-says)
       (λ a. by-bool (eqb i vlanRowStatus) (λ e. rw (eqb-true i vlanRowStatus e) row-status-says)
@@ -287,11 +287,11 @@ module _ (n : Model) (i tag : ℕ) (xs : List ℕ) where
             let l : leb (length xs) 32 ≡ true = le-leb (length xs) 32 (rw p at h) in
             read-on (wrongly 0) (rw p (name-says n xs l))
 
-        pub ports-said : objectAt i .syntax ≡ Ports → contentSaidOf i xs (portsSaid n xs) ≡ contentSaid n i tag xs
-        ports-said y = read-on (portsSaid n xs) (ports-mean n xs i (in-place Ports y))
+        pub ports-said : objectAt i .syntax ≡ Ports → contentSaidOf i xs (saidPorts n xs) ≡ contentSaid n i tag xs
+        ports-said y = read-on (saidPorts n xs) (ports-mean n xs i (in-place Ports y))
 
-        pub number-said : eqb tag 0x22 ≡ false → contentSaidOf i xs (numberSaid (n .edition) i (beAt xs 0 4)) ≡ contentSaid n i tag xs
+        pub number-said : eqb tag 0x22 ≡ false → contentSaidOf i xs (saidNumber (n .edition) i (beAt xs 0 4)) ≡ contentSaid n i tag xs
         number-said t =
             let d : eqb (tagOf (objectAt i .syntax)) 0x22 ≡ false = rw typed at t in
-            read-on (numberSaid (n .edition) i (beAt xs 0 4))
+            read-on (saidNumber (n .edition) i (beAt xs 0 4))
             (number-means n xs i writable here (not-text (objectAt i .syntax) i d (in-place (objectAt i .syntax) refl)) (rw d))

@@ -4,7 +4,7 @@ use mathlib.Core.Bool.{true, false, not, _&&_}
 use borrow.Author.Needs.{needs}
 use Rattle.block.specs.declared.tables.Table.the-variants.{Pair as pair}
 use Rattle.answer.specs.Tables.{makes}
-use Rattle.verdict.specs.Kept.{statusOf}
+use Rattle.verdict.specs.Kept.{statusMeant}
 use Rattle.verdict.proofs.faults.lacks_column.Statement.{statement}
 use Rattle.verdict.proofs.faults.lacks_column.Tie as tie
 
@@ -27,7 +27,7 @@ returns : tie.Need-returns
 returns c =
     let a = c .before .before .before .before .before .args in
     let told = c .before .before .before .enum-told3 .given .1 in
-    let makes-absent : makes pair (statusOf pair (a .v)) && not (a .there) ≡ true = rw (c .before .before .makes-row .ensures, told) at (c .before .if1 .taken) in
+    let makes-absent : makes pair (statusMeant pair (a .v)) && not (a .there) ≡ true = rw (c .before .before .makes-row .ensures, told) at (c .before .if1 .taken) in
     rw (c .is-done .ensures, told, makes-absent)
 
 returns-2 : tie.Need-returns-2
@@ -40,7 +40,7 @@ returns-4 : tie.Need-returns-4
 returns-4 c =
     let a = c .before .before .before .before .args in
     let told = c .before .before .enum-told3 .given .1 in
-    let makes-none : makes pair (statusOf pair (a .v)) && not (a .there) ≡ false = rw (c .before .makes-row .ensures, told) at (c .if1 .left) in
+    let makes-none : makes pair (statusMeant pair (a .v)) && not (a .there) ≡ false = rw (c .before .makes-row .ensures, told) at (c .if1 .left) in
     rw (told, makes-none)
 
 pub lacks-column-spec : {M : Type 1} → statement M

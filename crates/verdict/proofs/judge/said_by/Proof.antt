@@ -14,7 +14,7 @@ use Rattle.octets.proofs.PartLaws.{part-length}
 use Rattle.names.specs.Table.{objectAt}
 use Rattle.names.specs.declared.table.Syntax.{Syntax}
 use Rattle.answer.specs.Judge.{tagOf, isWritable, contentSaid}
-use Rattle.verdict.specs.Kept.{contentSaidOf, numberSaid}
+use Rattle.verdict.specs.Kept.{contentSaidOf, saidNumber}
 use Rattle.verdict.proofs.judge.SaidLaws.{read-only, wrong-type, too-long, named, ports-said, number-said}
 use Rattle.verdict.proofs.judge.AskedLaws.{number-in-part, four-octets, brief}
 use Rattle.verdict.proofs.judge.said_by.Statement.{statement}
@@ -48,7 +48,7 @@ module _ (c : tie.Else2) (y : Syntax) (told : c .before .before .before .before 
     four : start c .args .b .len ≡ 4
     four = four-octets (start c .args .request .now) (start c .args .b) (start c .pre .3) no-string
 
-    number-read : contentSaidOf (start c .args .i) (content c) (numberSaid (start c .args .m .edition) (start c .args .i) (beAt (start c .args .request .now) (start c .args .b .content) 4))
+    number-read : contentSaidOf (start c .args .i) (content c) (saidNumber (start c .args .m .edition) (start c .args .i) (beAt (start c .args .request .now) (start c .args .b .content) 4))
         ≡ contentSaid (start c .args .m) (start c .args .i) (start c .args .b .tag) (content c)
     number-read =
         let a = start c .args in
