@@ -7,7 +7,7 @@ use io::write_all;
 use libc::STDOUT_FILENO;
 use message::form::Refusal;
 use message::reader::request_of;
-use message::request::Outcome;
+use message::request::RequestOutcome;
 use octets::parts::copy_in;
 
 // The get of paper 01's first case: NumPorts, id 7.
@@ -161,8 +161,8 @@ fn say_reading(s: &[u8]) {
     let r = request_of(s);
     let outcome = r.outcome;
     match outcome {
-        Outcome::Refused(f) => say_refusal(f),
-        Outcome::Read { kind, id, count } => {
+        RequestOutcome::Refused(f) => say_refusal(f),
+        RequestOutcome::Read { kind, id, count } => {
             say(b"read");
             say_number(kind as u64);
             say_number(id as u64);

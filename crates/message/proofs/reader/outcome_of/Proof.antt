@@ -51,15 +51,15 @@ use Rattle.message.specs.Request.{requests, headOf, readRequest, outcome
 use Rattle.message.specs.Walk.{begunWith, bindingMore}
 use Rattle.message.specs.declared.reader.Reader.{Reader}
 use Rattle.message.specs.declared.request.Progress.{Progress}
-use Rattle.message.specs.declared.request.Outcome.{Outcome}
+use Rattle.message.specs.declared.request.RequestOutcome.{RequestOutcome}
 use Rattle.message.proofs.LoopLaws.{Left, left-begun, left-turn, left-end}
 use Rattle.message.proofs.WalkLaws.{ReaderAt, readerVal, ReaderOwn}
 use Rattle.message.proofs.reader.Reader as T
 use Rattle.message.proofs.reader.Reader.Laws as T′
 use Rattle.message.proofs.request.Progress as P
 use Rattle.message.proofs.request.Progress.Laws as P′
-use Rattle.message.proofs.request.Outcome as S
-use Rattle.message.proofs.request.Outcome.Laws as S′
+use Rattle.message.proofs.request.RequestOutcome as S
+use Rattle.message.proofs.request.RequestOutcome.Laws as S′
 use Rattle.message.proofs.request.begun as begun
 use Rattle.message.proofs.request.begun.Symbol as begun-def
 use Rattle.message.proofs.request.begun.Symbol.{name as #begun}
@@ -189,7 +189,7 @@ module _ {M : Type 1} (𝓤 : URA M) (H : Heap 𝓤) (A : Atoms 𝓤) (W : Given
   abbrev n : ℕ
   n = length (now s)
 
-  abbrev answer : Outcome
+  abbrev answer : RequestOutcome
   answer = outcomeOf (readRequest (now s))
 
   -- the lifetime of a local's type
@@ -288,10 +288,10 @@ module _ {M : Type 1} (𝓤 : URA M) (H : Heap 𝓤) (A : Atoms 𝓤) (W : Given
   goes-in : (p : Progress) → IsProgress p → ent 𝓤 (emp 𝓤) (InC 𝓤 H A mem run .pre (to-in p))
   goes-in p is = qed W [] ∵ nothing ! $ owned ! P.the-row (Is P.the-row) ((LL.makes P.the-type P′.the-plain) 𝓤 H A) p _ is $ fjoin ! $ nothing ! $ join ! $ frame ! $ done !
 
-  in-said : (p : Progress) (r : Outcome) → ent 𝓤 (ensured 𝓤 H A outcome-in.ended (outcome-in.clauses 𝓤 H A mem run) tt (p, tt) tt r) (fact 𝓤 (r ≡ p .outcome))
+  in-said : (p : Progress) (r : RequestOutcome) → ent 𝓤 (ensured 𝓤 H A outcome-in.ended (outcome-in.clauses 𝓤 H A mem run) tt (p, tt) tt r) (fact 𝓤 (r ≡ p .outcome))
   in-said p r = exE 𝓤 _ (λ ws. snd∗ 𝓤 (sem 𝓤 H A (lasts outcome-in.ended tt (p, tt) ws)) (fact 𝓤 (r ≡ p .outcome)))
 
-  exits : (t : Outcome) (u : Val) → t ≡ answer → ent 𝓤 (⋆ 𝓤 H A (‵ (S.the-row .own t (u ∷ [])) ∷ Token ∷ ‵ Own ∷ [])) (Post u)
+  exits : (t : RequestOutcome) (u : Val) → t ≡ answer → ent 𝓤 (⋆ 𝓤 H A (‵ (S.the-row .own t (u ∷ [])) ∷ Token ∷ ‵ Own ∷ [])) (Post u)
   exits t u e =
       qed W (‵ (S.the-row .own t (u ∷ [])) ∷ Token ∷ ‵ Own ∷ []) ∵
       suffices ! _ (ends-at 𝓤 H A f.ended stayed (f.clauses 𝓤 H A mem run) W (((κ, tt), (q, tt), tt, (s, tt), (v ∷ [], tt)), tt) u t (tt, tt) (tt, tt)) $ says ! e $
@@ -390,7 +390,7 @@ module _ {M : Type 1} (𝓤 : URA M) (H : Heap 𝓤) (A : Atoms 𝓤) (W : Given
         -- `outcome_in`
         move ! (1 ∷ []) $ discard ! $ use0 W (raw (InC 𝓤 H A mem run .pre (to-in p))) (goes-in p (t .is)) $
         calls-at ! (fmOf 𝓤 H (W .laws) 𝓣) (InC 𝓤 H A mem run) known-in (to-in p) (and-then ! (load ! (from ! (stop !)) (look ! 3 refl)) (no-more !)) (λ u₂.
-        use1 W (later (some (λ (r : Outcome). (‵ ftrue ⊛ ‵ (S.the-row .own r (u₂ ∷ []))) ⊛ raw (ensured 𝓤 H A outcome-in.ended (outcome-in.clauses 𝓤 H A mem run) tt (p, tt) tt r)))) (id⊢ 𝓤 _) $ await ! tt $ pick ! (λ r₂.
+        use1 W (later (some (λ (r : RequestOutcome). (‵ ftrue ⊛ ‵ (S.the-row .own r (u₂ ∷ []))) ⊛ raw (ensured 𝓤 H A outcome-in.ended (outcome-in.clauses 𝓤 H A mem run) tt (p, tt) tt r)))) (id⊢ 𝓤 _) $ await ! tt $ pick ! (λ r₂.
         split ! $ move ! (1 ∷ []) $ use1 W (raw (fact 𝓤 (r₂ ≡ p .outcome))) (in-said p r₂) $ heard ! (r₂ ≡ p .outcome) (λ e₂. split ! $ discard ! $
         -- [the result; the token; what the slice owns; _2; _3; _5; .. _8; _1; _4; room for _0; that each local dies]
         peeks ! S.the-row (Is S.the-row) (shows 𝓤 H A S.the-row) r₂ (u₂ ∷ []) (λ is₂.
