@@ -1,7 +1,7 @@
 // The header of a frame, octet by octet.
 ghost use mathlib.Core.Path.{_≡_};
 ghost use Rattle.console.specs.Positions.{InHeader, NextPosition, HeadOf};
-use message::answer::MOST_OCTETS;
+use message::sizes::MOST_OCTETS;
 
 // The octets of a header, all of them but the last, and those before the message length.
 pub const HEADER_OCTETS: usize = 5;

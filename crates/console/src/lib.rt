@@ -16,7 +16,7 @@ ghost use Rattle.console.specs.Positions.{moved, InHeader, Tail};
 use header::HEADER_OCTETS;
 use header::HEADER_WRONG;
 use header::read_header;
-use message::answer::MOST_OCTETS;
+use message::sizes::MOST_OCTETS;
 use octets::numbers::be2;
 use octets::parts::clear;
 use octets::parts::copy_in;

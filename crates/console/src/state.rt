@@ -7,7 +7,7 @@ ghost use Rattle.console.specs.Positions.{front, numbersOk, heldIn};
 use super::header::HEADER_WRONG;
 use super::header::LAST_MISSING;
 use super::header::LENGTH_OVER;
-use message::answer::MOST_OCTETS;
+use message::sizes::MOST_OCTETS;
 use octets::numbers::be2;
 use octets::numbers::put;
 use octets::parts::all_zero;

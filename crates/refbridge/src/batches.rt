@@ -12,7 +12,7 @@ use batch::RbBatch;
 use batch::check;
 use console::frames::Span;
 use console::frames::frames_of;
-use message::answer::MOST_OCTETS;
+use message::sizes::MOST_OCTETS;
 
 // The results of a batch that was played in two orders, and what the checker says of it.
 pub struct TwoPlays {
