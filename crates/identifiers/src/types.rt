@@ -5,7 +5,7 @@ ghost use lib.ListN.{length};
 ghost use Rattle.octets.specs.Parts.{patch};
 ghost use Rattle.names.specs.Index.{limit};
 ghost use Rattle.names.specs.Instances.{instanceName, nameSize};
-ghost use Rattle.names.specs.Table.{root, prefixOf, objects, placeUnder, placeOf, found};
+ghost use Rattle.names.specs.Table.{root, prefixOf, objects, placeUnder, placeOf, passedIn, found};
 ghost use Rattle.names.specs.Order.{sideOf};
 ghost use Rattle.names.specs.SubIds.{subids, nameOctets};
 use super::index::index_len;
@@ -58,6 +58,30 @@ fn type_under_root(rest: &[u8]) -> Found
         }
     }
     Found::Unknown
+}
+
+// The first place whose object type does not stand before what follows the root in a name, or else the table's end: the ascending table is halved.
+pub fn first_place(rest: &[u8]) -> usize
+    ensures { λ r. ⌜ r ≡ passedIn objects (subids (now (rest .entry))) ⌝ }
+{
+    let mut first: usize = 0;
+    let mut last: usize = OBJECT_COUNT;
+    while first < last {
+        let middle = first + (last - first) / 2;
+        let side = type_side(rest, object(middle));
+        match side {
+            Side::Below => {
+                last = middle;
+            }
+            Side::Prefix => {
+                last = middle;
+            }
+            Side::Above => {
+                first = middle + 1;
+            }
+        }
+    }
+    first
 }
 
 // The place of the object type that is a prefix of the name.
