@@ -14,7 +14,7 @@ use Rattle.names.specs.Index.{canHave, index}
 use Rattle.names.specs.Table.{objectAt}
 use Rattle.names.specs.Places.{pairBridgeNum}
 use Rattle.names.specs.Instances.{instanceName}
-use Rattle.names.specs.Ascending.{All}
+use Rattle.octets.specs.Ascending.{All}
 use Rattle.names.specs.declared.model.Model.{Model}
 use Rattle.block.specs.Content.{Content, modelOf}
 use Rattle.block.specs.Lookup.{keysOf, lookup}
@@ -22,39 +22,38 @@ use Rattle.block.specs.Valid.{valid, testOf}
 use Rattle.block.proofs.ValidParts.{valid-parts}
 use Rattle.block.proofs.KeepLaws.{rowsOk-lookup}
 use Rattle.answer.specs.Get.{elem, get}
-use Rattle.answer.specs.Writes.{status, field, isStatus, onStatus, present, those, ordered, has, playRow}
+use Rattle.answer.specs.Writes.{status, attribute, isStatus, onStatus, present, those, ordered, has, playRow}
 use Rattle.block.specs.Tables.{Row, rowsOf, shapeOf, hasTable}
 use Rattle.block.specs.declared.tables.Table.{Table}
 use Rattle.block.specs.declared.tables.Table.the-variants.{Vlan as vlan, Static as static, Pair as pair}
-use Rattle.answer.specs.Tables.{create, state, destroy, name, egress, forbidden, untagged, keep, drop, allowed, paired, unpaired, bridgeNumber, Status, Field, ColumnOf, columnPlace, madeVlan, statusStep, fieldStep, step, makes}
+use Rattle.answer.specs.Tables.{create, state, destroy, name, egress, forbidden, untagged, keep, drop, allowed, paired, unpaired, bridgeNumber, Status, Attribute, ColumnOf, columnPlace, madeVlan, statusStep, attributeStep, step, makes}
 use Rattle.answer.specs.Judge.{Asked, Judged, judged}
 use Rattle.answer.specs.Set.{writesTo, rowFault, isFull, fault, verdict, apply, after}
 use Rattle.answer.specs.Theorems.{startValue, columnName}
-use Rattle.answer.proofs.GetLaws.{valid-rows}
 use Rattle.answer.proofs.RoomLaws.{elem-not-head, elem-not-tail}
 use Rattle.answer.proofs.JudgeLaws.{judged-single, judged-unnamed}
 use Rattle.answer.proofs.WriteLaws.{has-find, play-row, row-keeps-quiet}
 use Rattle.answer.proofs.ContentOrder.{rows-apply}
 use Rattle.answer.proofs.KeepValid.{each-row, each-ordered, valid-rising, after-valid}
 use Rattle.answer.proofs.RespondLaws.{faulted-keeps, accepted-applies, accepted-clean}
-use Rattle.answer.proofs.OnlyWriteLaws.{field-started}
-use Rattle.answer.proofs.StoredLaws.{shows, held, row-got, field-quiet}
+use Rattle.answer.proofs.OnlyWriteLaws.{attribute-started}
+use Rattle.answer.proofs.StoredLaws.{shows, held, row-got, attribute-quiet}
 
 -- the row that a change of the status column makes shows what a made row starts with
-starts : (m : Model) (t : Table) (k : ℕ) (f : Field t) (x : Status t) (r : Row t) → statusStep m t k x none ≡ some r
-    → shows m t (field f) r ≡ startValue m t k (columnPlace t (field f))
-starts m vlan k f (create s) r e = subst (λ r. shows m vlan (field f) r ≡ startValue m vlan k (columnPlace vlan (field f))) (Option·some-injective (madeVlan m k s) r e) (go f)
+starts : (m : Model) (t : Table) (k : ℕ) (f : Attribute t) (x : Status t) (r : Row t) → statusStep m t k x none ≡ some r
+    → shows m t (attribute f) r ≡ startValue m t k (columnPlace t (attribute f))
+starts m vlan k f (create s) r e = subst (λ r. shows m vlan (attribute f) r ≡ startValue m vlan k (columnPlace vlan (attribute f))) (Option·some-injective (madeVlan m k s) r e) (go f)
   where
-    go : (f : Field vlan) → shows m vlan (field f) (madeVlan m k s) ≡ startValue m vlan k (columnPlace vlan (field f))
+    go : (f : Attribute vlan) → shows m vlan (attribute f) (madeVlan m k s) ≡ startValue m vlan k (columnPlace vlan (attribute f))
     go (name xs) = refl
     go (egress s) = refl
     go (forbidden s) = refl
     go (untagged s) = refl
 starts m vlan k f (state s) r e = absurd (Option·none-ne-some r e)
 starts m vlan k f destroy r e = absurd (Option·none-ne-some r e)
-starts m static k (allowed s) (keep x) r e = ap (shows m static (field (allowed s))) (sym (Option·some-injective _ r e))
+starts m static k (allowed s) (keep x) r e = ap (shows m static (attribute (allowed s))) (sym (Option·some-injective _ r e))
 starts m static k f drop r e = absurd (Option·none-ne-some r e)
-starts m pair k (bridgeNumber x) (paired s) r e = ap (shows m pair (field (bridgeNumber x))) (sym (Option·some-injective _ r e))
+starts m pair k (bridgeNumber x) (paired s) r e = ap (shows m pair (attribute (bridgeNumber x))) (sym (Option·some-injective _ r e))
 starts m pair k f unpaired r e = absurd (Option·none-ne-some r e)
 
 -- a row of a valid content has an index that the bridge can have, and its table is one that the device has
@@ -63,7 +62,7 @@ can-row t c k ok p = go (lookup k (rowsOf t c)) refl p
   where
     go : (o : Option (Row t)) → lookup k (rowsOf t c) ≡ o → present o ≡ true → canHave (modelOf c) (shapeOf t) (index (shapeOf t) k) ≡ true
     go none e q = absurd (false≢true q)
-    go (some r) e q = rowsOk-lookup (modelOf c) (shapeOf t) (testOf t (modelOf c)) 0 (rowsOf t c) k r (valid-rows c ok t) e .0
+    go (some r) e q = rowsOk-lookup (modelOf c) (shapeOf t) (testOf t (modelOf c)) 0 (rowsOf t c) k r (valid-parts c ok .rowsIn t) e .0
 
 some-row : {R : Type 0} (k : ℕ) (es : List (ℕ × R)) → present (lookup k es) ≡ true → 0 < length es
 unfolding lookup
@@ -85,7 +84,7 @@ unbound : (k : ℕ) (ws : List (ℕ × ColumnOf pair)) → elem k (keysOf (those
 unfolding those has
 unbound k [] h = refl
 unbound k ((j, status x) ∷ ws) h = rw (and-false (eqb k j)) (unbound k ws h)
-unbound k ((j, field f) ∷ ws) h =
+unbound k ((j, attribute f) ∷ ws) h =
     let rest : List ℕ = keysOf (those (λ c. eqb (columnPlace pair c) pairBridgeNum) ws) in
     rw (ne-eqb k j (elem-not-head k j rest h)) (unbound k ws (elem-not-tail k j rest h))
 
@@ -95,14 +94,14 @@ lacks-number : (m : Model) (f : Bool) (ws : List (ℕ × ColumnOf pair)) (k : �
 unfolding rowFault
 lacks-number m f ws k (status (paired s)) b q h = omega (arith, rw b at h)
 lacks-number m f ws k (status unpaired) b q h = false≢true q
-lacks-number m f ws k (field y) b q h = false≢true q
+lacks-number m f ws k (attribute y) b q h = false≢true q
 
 -- and without such a binding the pair stays absent
 stays-absent : (m : Model) (k : ℕ) (x : ColumnOf pair) → onStatus (makes pair) x ≡ false → (o : Option (Row pair)) → present o ≡ false → present (step m pair k x o) ≡ false
 stays-absent m k (status (paired s)) q o h = absurd (true≢false q)
 stays-absent m k (status unpaired) q o h = refl
-stays-absent m k (field y) q none h = refl
-stays-absent m k (field y) q (some r) h = h
+stays-absent m k (attribute y) q none h = refl
+stays-absent m k (attribute y) q (some r) h = h
 
 -- so an accepted set names the bridge number of each pair that it makes
 pub made-numbered : (c : Content) (bs : List Asked) → valid c ≡ true → (k : ℕ) → present (lookup k (c .pairs)) ≡ false
@@ -128,9 +127,9 @@ made-numbered c bs ok k was now un =
     (λ e. true≢false (sym now ∙ ap (λ (d : Content). present (lookup k (d .pairs))) (faulted-keeps c m e) ∙ was))
 
 pub made-start : (c : Content) (bs : List Asked) → valid c ≡ true → All (λ b. Octets (b .content)) bs → verdict c (judged (modelOf c) bs) .status ≡ 0
-    → (t : Table) (k : ℕ) (f : Field t) → present (lookup k (rowsOf t c)) ≡ false → present (lookup k (rowsOf t (after c (judged (modelOf c) bs)))) ≡ true
+    → (t : Table) (k : ℕ) (f : Attribute t) → present (lookup k (rowsOf t c)) ≡ false → present (lookup k (rowsOf t (after c (judged (modelOf c) bs)))) ≡ true
     → All (λ b. b .name ≡ columnName t k f → ⊥) bs
-    → get (after c (judged (modelOf c) bs)) (columnName t k f) ≡ startValue (modelOf c) t k (columnPlace t (field f))
+    → get (after c (judged (modelOf c) bs)) (columnName t k f) ≡ startValue (modelOf c) t k (columnPlace t (attribute f))
 unfolding apply
 made-start c bs ok o e t k f was now un =
     let n : Model = modelOf c in
@@ -144,8 +143,8 @@ made-start c bs ok o e t k f was now un =
     ap (lookup k) (rows-apply t c m) ∙ play-row (step n t) k (rowsOf t c) (ordered isStatus ws) (valid-rising c ok t)
     ∙ ap (playRow (step n t) k (ordered isStatus ws)) (absent-none (lookup k (rowsOf t c)) was) in
     rw applied
-    (row-got t (apply c m) k (field f) (can-row t (apply c m) k fine there) (has-row t (apply c m) k fine there)
-    ∙ ap (λ (x : Option (Row t)). held (Option·map (shows n t (field f)) x)) row
-    ∙ ap held (field-started (statusStep n t) (fieldStep t) k ws (shows n t (field f)) (startValue n t k (columnPlace t (field f))) (starts n t k f)
-    (λ y. eqb (columnPlace t y) (columnPlace t (field f))) (field-quiet n t f) (judged-unnamed (modelOf c) few t (columnPlace t (field f)) k bs un) (judged-single (modelOf c) few bs t)
+    (row-got t (apply c m) k (attribute f) (can-row t (apply c m) k fine there) (has-row t (apply c m) k fine there)
+    ∙ ap (λ (x : Option (Row t)). held (Option·map (shows n t (attribute f)) x)) row
+    ∙ ap held (attribute-started (statusStep n t) (attributeStep t) k ws (shows n t (attribute f)) (startValue n t k (columnPlace t (attribute f))) (starts n t k f)
+    (λ y. eqb (columnPlace t y) (columnPlace t (attribute f))) (attribute-quiet n t f) (judged-unnamed (modelOf c) few t (columnPlace t (attribute f)) k bs un) (judged-single (modelOf c) few bs t)
     (sym (ap present row) ∙ there)))

@@ -21,7 +21,7 @@ use Rattle.block.proofs.ValidParts.{valid-parts}
 use Rattle.block.proofs.RoundLaws.{legal-valid}
 use Rattle.block.proofs.KeepLaws.{cells-in}
 use Rattle.block.proofs.TimerLaws.{by-timer, timer-place, timer-has}
-use Rattle.names.specs.Ascending.{All}
+use Rattle.octets.specs.Ascending.{All}
 use Rattle.answer.specs.Values.{Value, integer}
 use Rattle.answer.specs.Get.{get}
 use Rattle.answer.specs.Judge.{Asked, tagOf, judged}

@@ -23,8 +23,8 @@ use Rattle.block.specs.Image.{fitTo, image, contentOf}
 use Rattle.block.specs.Valid.{every, isOctet, portSet, staticOk, pairOk, rowsOk, valid}
 use Rattle.block.proofs.RoundLaws.{contentOf-image, legal-image}
 use Rattle.block.proofs.FreshLaws.{valid-fresh}
-use Rattle.block.specs.declared.tables.Table.the-variants.{Pair as pair}
-use Rattle.block.proofs.KeepLaws.{valid-rows, valid-statics}
+use Rattle.block.specs.declared.tables.Table.the-variants.{Static as statics, Pair as pair}
+use Rattle.block.proofs.KeepLaws.{valid-rows}
 use Rattle.message.specs.Form.{fieldAt, tagAllowed, contentLength, lengthRight, fieldJudged, checkedAt}
 use Rattle.message.specs.Request.{kindAllowed, statusAllowed, statusOf, idOf, headOf, contentRole, contentIn, bindingIn, bindingAt, bindingTagAt, seventeenth, bindingsFrom, readMessage, readRequest}
 use Rattle.message.specs.Answer.{headOctets, bindingOctets, bindingsOctets, messageOctets}
@@ -196,7 +196,7 @@ pub short : (a : List ℕ) → length a ≡ 6 → every isOctet a ≡ true → S
 unfolding fresh staticsTo zeros portsTo onlyTo disjoint within weight digits number rowsOk staticOk portSet zeroRun every
 short a l o =
     let r = room a l o in
-    let v : valid (packed a) ≡ true = valid-statics (crowded a) (r .many .1) (staticsTo 256 []) refl (lit≤ tt) in
+    let v : valid (packed a) ≡ true = valid-rows (crowded a) (r .many .1) statics (staticsTo 256 []) refl (lit≤ tt) in
     let c = short-computed a in
     record {
       vlans = on-image (crowded a) (framed (makes300 ∷ removes7 ∷ [])) (r .many .1) ∙ c .0;

@@ -11,7 +11,7 @@ use lib.Seq.{drop-at}
 use borrow.Author.Tests.{eqb-true, eqb-false, ltb-true, ltb-false, lt-ltb}
 use Rattle.octets.specs.Numbers.{beOctets}
 use Rattle.octets.proofs.OctetLaws.{octets-drop, octets-append, octets-none, octets-one}
-use Rattle.names.specs.Ascending.{All as Every}
+use Rattle.octets.specs.Ascending.{All as Every}
 use Rattle.message.specs.Answer.{mostOctets}
 use Rattle.message.proofs.FormLaws.{cond-cases}
 use Rattle.console.specs.Frames.{mark, frame, Frame, heading, filling, fresh, Step, inside, whole, wrong, arrived, sized, step, run}

@@ -9,7 +9,7 @@ use lib.ListN.{length, drop}
 use borrow.Author.Tests.{leb-true, leb-false}
 use Rattle.octets.proofs.BoolLaws.{by-bool}
 use Rattle.names.specs.declared.model.Model.{Model}
-use Rattle.names.specs.Ascending.{All as Every}
+use Rattle.octets.specs.Ascending.{All as Every}
 use Rattle.message.specs.Request.{readRequest}
 use Rattle.answer.specs.Terms.{isSet}
 use Rattle.console.specs.Batch.{mostFrames, framesMany, framesOf, octetsAt, Means}

@@ -10,7 +10,7 @@ use Rattle.octets.specs.Parts.{part}
 use Rattle.names.specs.SubIds.{subids}
 use Rattle.names.specs.Table.{objectCount}
 use Rattle.names.specs.declared.model.Model.{Model}
-use Rattle.names.specs.Ascending.{All as Every}
+use Rattle.octets.specs.Ascending.{All as Every}
 use Rattle.message.specs.Request.{refused, readRequest}
 use Rattle.message.specs.declared.request.Binding.{Binding}
 use Rattle.block.specs.Content.{Content}

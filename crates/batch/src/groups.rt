@@ -11,6 +11,7 @@ ghost use Rattle.batch.specs.Names.{groupsOf, sameGroup, among, common};
 ghost use Rattle.batch.specs.Found.{meant, Few, groups};
 use identifiers::targets::target_of;
 use message::form::HEAD_SIZE;
+use message::kinds::SET;
 use message::request::BindingRead;
 use message::request::binding_at;
 use names::model::Model;
@@ -36,9 +37,6 @@ const NO_GROUP: NamedGroup = NamedGroup {
     table: NOTHING,
     key: 0,
 };
-
-// The kind of a set.
-pub const SET: u8 = 3;
 
 // The row or scalar that a name names on a model.
 pub fn group_named(model: Model, name: &[u8]) -> NamedGroup

@@ -17,7 +17,7 @@ use super::groups::is_among;
 use block::tables::Table;
 use block::tables::row_count;
 use block::tables::standing_of;
-use get::instances::has_row;
+use instances::has_row;
 use names::model::Model;
 use names::places::PAIR_LOW_PORT;
 use names::places::STATIC_ADDRESS;

@@ -1,4 +1,6 @@
 // BER: fields, numbers, names and contents at their places in a datagram.
+pub mod tags;
+
 ghost use mathlib.Core.Path.{_≡_};
 ghost use Prim.Native.Nat.{_+_, _-_, _*_, _≤_, _^_};
 ghost use mathlib.Core.Bool.{true, false, cond};
@@ -10,8 +12,24 @@ ghost use Rattle.names.specs.SubIds.{nameOctets};
 ghost use Rattle.message.specs.Answer.{mostOctets};
 ghost use Rattle.ber.specs.Ber.{lengthOctets, lengthSaid, fieldAt, partAt, fewest, sign, five, unsigned32, unsigned8, isNumber, numberAt, nameWhole, made, firstOf, subIds, limitOf, allBelow, nameFits, contentTag, numberJudged, contentJudged};
 use message::form::Field;
+use message::tags::COUNTER;
+use message::tags::END_OF_VIEW;
+use message::tags::INTEGER;
+use message::tags::NO_SUCH_INSTANCE;
+use message::tags::NO_SUCH_OBJECT;
+use message::tags::NULL;
+use message::tags::STRING;
+use message::tags::UNSIGNED;
 use octets::numbers::put;
 use octets::parts::copy_in;
+use tags::BER_COUNTER;
+use tags::BER_END_OF_VIEW;
+use tags::BER_INTEGER;
+use tags::BER_NO_SUCH_INSTANCE;
+use tags::BER_NO_SUCH_OBJECT;
+use tags::BER_NULL;
+use tags::BER_STRING;
+use tags::BER_UNSIGNED;
 
 // The refusals of a datagram.
 pub const BROKEN: u8 = 16;
@@ -210,7 +228,7 @@ pub fn number_at(s: &[u8], at: usize, end: usize) -> PartRead
     requires { ⌜ (end ≤ length (now s)) × (end ≤ mostOctets) ⌝ }
     ensures { λ r. ⌜ r ≡ numberAt (now (s .entry)) at end ⌝ }
 {
-    match part_at(0x02, s, at, end) {
+    match part_at(BER_INTEGER, s, at, end) {
         PartRead::Refused(n) => PartRead::Refused(n),
         PartRead::At { start, len } => {
             if is_fewest(s, start, len) {
@@ -346,29 +364,29 @@ pub fn put_name(room: &mut [u8], s: &[u8], at: usize, len: usize)
 pub fn content_tag(tag: u8) -> u8
     ensures { λ r. ⌜ r ≡ contentTag tag ⌝ }
 {
-    if tag == 0x05 {
-        return 0x20;
+    if tag == BER_NULL {
+        return NULL;
     }
-    if tag == 0x02 {
-        return 0x21;
+    if tag == BER_INTEGER {
+        return INTEGER;
     }
-    if tag == 0x04 {
-        return 0x22;
+    if tag == BER_STRING {
+        return STRING;
     }
-    if tag == 0x42 {
-        return 0x23;
+    if tag == BER_UNSIGNED {
+        return UNSIGNED;
     }
-    if tag == 0x41 {
-        return 0x24;
+    if tag == BER_COUNTER {
+        return COUNTER;
     }
-    if tag == 0x80 {
-        return 0x30;
+    if tag == BER_NO_SUCH_OBJECT {
+        return NO_SUCH_OBJECT;
     }
-    if tag == 0x81 {
-        return 0x31;
+    if tag == BER_NO_SUCH_INSTANCE {
+        return NO_SUCH_INSTANCE;
     }
-    if tag == 0x82 {
-        return 0x32;
+    if tag == BER_END_OF_VIEW {
+        return END_OF_VIEW;
     }
     0
 }
@@ -390,16 +408,16 @@ pub fn content_judged(tag: u8, s: &[u8], at: usize, len: usize) -> u8
     requires { ⌜ at + len ≤ length (now s) ⌝ }
     ensures { λ r. ⌜ r ≡ contentJudged tag (part (now (s .entry)) at len) ⌝ }
 {
-    if tag == 0x22 {
+    if tag == STRING {
         if len <= 255 {
             return NOT_REFUSED;
         }
         return NO_COUNTERPART;
     }
-    if tag == 0x21 {
+    if tag == INTEGER {
         return number_judged(is_fewest(s, at, len), len <= 4);
     }
-    if (tag == 0x23) | (tag == 0x24) {
+    if (tag == UNSIGNED) | (tag == COUNTER) {
         return number_judged(is_fewest(s, at, len), is_unsigned32(s, at, len));
     }
     if len == 0 {

@@ -43,15 +43,7 @@ beAt-before b p xs q w h l =
     ∙ ap (λ (x : List ℕ). beAt x q w) (take-append-drop p b)
 
 module _ (b : List ℕ) where
-  -- how many rows a table has
-  pub many-rows : (t : Table) → length (rowsOf t (contentOf b)) ≡ beAt b (standing t .count) 4
-  many-rows t = many-in b t
-
-  -- its keys
-  pub row-keys : (t : Table) → keysOf (rowsOf t (contentOf b)) ≡ keysAt (standing t .key) (standing t .width) b (standing t .rows) (beAt b (standing t .count) 4)
-  row-keys t = keys-are b t
-
-  -- at most as many as there is room for
+  -- a table has at most as many rows as there is room for
   pub few-rows : (t : Table) → Sized b → beAt b (standing t .count) 4 ≤ most t
   few-rows vlan s = s .fewVlans
   few-rows static s = s .fewStatics
@@ -60,8 +52,8 @@ module _ (b : List ℕ) where
   -- the key of the row at place i, where it stands
   pub key-is : (t : Table) (i : ℕ) → i < length (rowsOf t (contentOf b)) → getD (keysOf (rowsOf t (contentOf b))) i 0 ≡ beAt b (standing t .rows + i * standing t .width) (standing t .key)
   key-is t i h =
-      ap (λ (ks : List ℕ). getD ks i 0) (row-keys t)
-      ∙ getD-rowsAt (λ x q. beAt x q (standing t .key)) (standing t .width) b (standing t .rows) (beAt b (standing t .count) 4) i 0 (omega (arith, many-rows t))
+      ap (λ (ks : List ℕ). getD ks i 0) (keys-are b t)
+      ∙ getD-rowsAt (λ x q. beAt x q (standing t .key)) (standing t .width) b (standing t .rows) (beAt b (standing t .count) 4) i 0 (omega (arith, many-in b t))
 
   -- it has as many octets as the table's keys
   pub key-small : (t : Table) (i : ℕ) → Octets b → i < length (rowsOf t (contentOf b)) → getD (keysOf (rowsOf t (contentOf b))) i 0 < 256 ^ standing t .key
@@ -72,4 +64,4 @@ module _ (b : List ℕ) where
   rows-inside t s = omega (arith, s .long, room-inside t (beAt b (standing t .count) 4) (few-rows t s))
 
   pub row-ends-in : (t : Table) (i : ℕ) → Sized b → i < length (rowsOf t (contentOf b)) → standing t .rows + i * standing t .width + standing t .width ≤ length b
-  row-ends-in t i s h = omega (arith, rows-inside t s, row-inside i (beAt b (standing t .count) 4) (standing t .width) (omega (arith, many-rows t)))
+  row-ends-in t i s h = omega (arith, rows-inside t s, row-inside i (beAt b (standing t .count) 4) (standing t .width) (omega (arith, many-in b t)))

@@ -2,7 +2,7 @@
 use mathlib.Core.Path.{_≡_}
 use Prim.Native.Nat.{ℕ, _^_, _≤_, _<_}
 use lib.ListN.{length}
-use Rattle.names.specs.Ascending.{All}
+use Rattle.octets.specs.Ascending.{All}
 use Rattle.block.specs.Content.{Content, WellFormed}
 use Rattle.block.specs.declared.rows.VlanRow.{VlanRow}
 use Rattle.block.specs.declared.rows.StaticRow.{StaticRow}

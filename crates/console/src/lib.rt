@@ -16,6 +16,7 @@ ghost use Rattle.console.specs.Positions.{moved, InHeader, Tail};
 use header::HEADER_OCTETS;
 use header::HEADER_WRONG;
 use header::read_header;
+use message::refusals::ROOM_SHORT;
 use message::sizes::MOST_OCTETS;
 use octets::numbers::be2;
 use octets::parts::clear;
@@ -39,9 +40,6 @@ pub struct RbConsole {
     pub complete: u32,
     pub count: u32,
 }
-
-// The room has under 1,472 octets.
-const ROOM_SHORT: u32 = 1;
 
 // Takes contents: the octets of the chunk from index at on follow the first held octets of the state's contents.
 fn take_contents(

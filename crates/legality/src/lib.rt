@@ -25,7 +25,14 @@ use block::layout::AT_VLAN_TOTAL;
 use block::layout::AT_VLANS;
 use block::layout::BLOCK_SIZE;
 use block::layout::FREE_HEAD;
+use block::layout::STATIC_PORT_AT;
 use block::layout::STATIC_WIDTH;
+use block::layout::VLAN_EGRESS_AT;
+use block::layout::VLAN_FORBIDDEN_AT;
+use block::layout::VLAN_NAME_AT;
+use block::layout::VLAN_NAME_LEN_AT;
+use block::layout::VLAN_STATUS_AT;
+use block::layout::VLAN_UNTAGGED_AT;
 use block::layout::VLAN_WIDTH;
 use block::model::is_model;
 use block::reads::cell;
@@ -219,15 +226,15 @@ fn vlan_ok(block: &[u8], m: Model, at: usize) -> bool
     requires { ⌜ (1 ≤ m .ports) × (m .ports ≤ 64) × (at + 60 ≤ length (now block)) ⌝ }
     ensures { λ t. ⌜ t ≡ vlanOk m (vlanAt (now (block .entry)) at .1) ⌝ }
 {
-    let from = at + 4;
-    let end = at + 36;
-    if !name_ok(&block[from..end], block[at + 3] as usize) {
+    let from = at + VLAN_NAME_AT;
+    let end = at + VLAN_EGRESS_AT;
+    if !name_ok(&block[from..end], block[at + VLAN_NAME_LEN_AT] as usize) {
         return false;
     }
-    let status = block[at + 2];
-    let egress = be8(block, at + 36);
-    let forbidden = be8(block, at + 44);
-    let untagged = be8(block, at + 52);
+    let status = block[at + VLAN_STATUS_AT];
+    let egress = be8(block, at + VLAN_EGRESS_AT);
+    let forbidden = be8(block, at + VLAN_FORBIDDEN_AT);
+    let untagged = be8(block, at + VLAN_UNTAGGED_AT);
     ((status == 1) | (status == 2))
         & (sets_ok(m, egress, forbidden, untagged) & are_disjoint(egress, forbidden))
 }
@@ -293,7 +300,7 @@ fn static_rows_ok(block: &[u8], m: Model) -> bool
     let count = row_count(block, Table::Static);
     let mut i = 0;
     while i < count {
-        let port = block[AT_STATICS + i * STATIC_WIDTH + 6];
+        let port = block[AT_STATICS + i * STATIC_WIDTH + STATIC_PORT_AT];
         let fits = (port as u32 <= m.ports) & static_ok(m, static_entry(block, i));
         if !fits {
             return false;

@@ -1,7 +1,7 @@
--- Laws of tests: two of them together, cases by a test, by whether two numbers are equal, and by how they stand. Assumes nothing.
+-- Laws of tests: two of them together, a choice by two of them, cases by a test, by whether two numbers are equal, and by how they stand. Assumes nothing.
 use Prim.Native.Nat.{ℕ, _≤_, _<_}
 use native.Mathlib.Omega.{arith}
-use mathlib.Core.Path.{_≡_, refl}
+use mathlib.Core.Path.{_≡_, refl, sym}
 use mathlib.Core.Bool.{Bool, true, false, cond, _&&_}
 use mathlib.Core.Logic.{_⊎_, inl, inr, ⊎-elim}
 use lib.Dec.{ltb, eqb}
@@ -19,6 +19,26 @@ left-of a b e = both a b e .0
 pub right-of : (a b : Bool) → a && b ≡ true → b ≡ true
 right-of a b e = both a b e .1
 
+pub and-both : (a b : Bool) → a ≡ true → b ≡ true → a && b ≡ true
+and-both a b p q = rw (p, q)
+
+-- tests that hold together are equal
+pub same-truth : (a b : Bool) → (a ≡ true → b ≡ true) → (b ≡ true → a ≡ true) → a ≡ b
+same-truth true b f g = sym (f refl)
+same-truth false true f g = g refl
+same-truth false false f g = refl
+
+-- a choice within a choice is one by both tests
+pub cond-both : (a b : Bool) (x y z : ℕ) → a && b ≡ true → x ≡ cond a (cond b x y) z
+cond-both true true x y z e = refl
+cond-both true false x y z e = cc
+cond-both false b x y z e = cc
+
+pub cond-not-both : (a b : Bool) (x y : ℕ) → a && b ≡ false → y ≡ cond a (cond b x y) y
+cond-not-both true true x y e = cc
+cond-not-both true false x y e = refl
+cond-not-both false b x y e = refl
+
 pub both-lt : (i n j m : ℕ) → (ltb i n && ltb j m) ≡ true → (i < n) × (j < m)
 both-lt i n j m e = let b = both (ltb i n) (ltb j m) e in (ltb-true i n (b .0), ltb-true j m (b .1))
 
@@ -26,6 +46,10 @@ both-lt i n j m e = let b = both (ltb i n) (ltb j m) e in (ltb-true i n (b .0), 
 pub is-false : (t : Bool) → (t ≡ true → ⊥) → t ≡ false
 is-false true h = absurd (h refl)
 is-false false h = refl
+
+-- no test goes both ways
+pub not-both-ways : {C : Type 0} {t : Bool} → t ≡ true → t ≡ false → C
+not-both-ways {C} {t} p q = absurd (let z : _≡_ {A = ℕ} 0 1 = cc in omega arith)
 
 -- a test counts as 1 at most
 pub one-or-none : (t : Bool) → cond t 1 0 ≤ 1

@@ -1,4 +1,5 @@
 pub mod BoolLaws
+pub mod AllLaws
 pub mod ListLaws
 pub mod NumberLaws
 pub mod PartLaws

@@ -1,4 +1,5 @@
 pub mod Lists
+pub mod Ascending
 pub mod Numbers
 pub mod Parts
 pub mod Gaps

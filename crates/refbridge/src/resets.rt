@@ -1,10 +1,10 @@
 // The reset of a power cycle, as a C host calls it.
 ghost use mathlib.Core.Path.{_≡_};
 ghost use Rattle.reset.specs.Reset.{resetNumber, resetBlock};
-use super::BLOCK_NOT_LEGAL;
 use super::RbResult;
 use super::numbered;
 use legality::is_legal;
+use message::refusals::BLOCK_NOT_LEGAL;
 use reset::reset;
 
 // Removes the static rows that do not outlast a reset.

@@ -1,6 +1,7 @@
 // The run tally's calls: include/refbridge.h declares them. One pass over the list, then functions on numbers, then at most one state written.
 ghost use mathlib.Core.Path.{_≡_};
 ghost use Rattle.tally.specs.Run.{feed, report};
+ghost use Rattle.refbridge.specs.Tallies.{fedBy};
 use super::RbResult;
 use tally::RbCase;
 use tally::judge::Plan;
@@ -28,9 +29,7 @@ pub extern "C" fn rb_tally_event(
     event: u32,
     id: u32,
 ) -> RbResult
-    ensures { λ r. ⌜ (r .number ≡ feed (now (cases .entry)) (now (ended .entry)) event id .number) × (r .count ≡ 0) × (r .offset ≡ 0)
-        × (now (cases .exit) ≡ feed (now (cases .entry)) (now (ended .entry)) event id .cases)
-        × (now (ended .exit) ≡ feed (now (cases .entry)) (now (ended .entry)) event id .mark) ⌝ }
+    ensures { λ r. ⌜ (fedBy r (now (cases .exit)) (now (ended .exit)) ≡ feed (now (cases .entry)) (now (ended .entry)) event id) × (r .count ≡ 0) × (r .offset ≡ 0) ⌝ }
 {
     let s = scan(cases, id);
     let p = decide(ended, s, event);

@@ -7,13 +7,14 @@ use mathlib.Core.Bool.{Bool, true, false, cond}
 use mathlib.Core.List.{List, [], _∷_, _++_, append-assoc}
 use lib.ListN.{length, take, drop, getD, set, length-append, length-drop}
 use lib.Seq.{drop-cons, take-length, take-append-seam, length-take-le, getD-append-add, getD-drop}
-use Rattle.names.specs.Ascending.{All, Rising}
-use Rattle.names.proofs.AllLaws.{all-append, all-take, all-drop}
+use Rattle.octets.specs.Ascending.{All, Rising}
+use Rattle.octets.proofs.AllLaws.{all-append, all-take, all-drop}
 use Rattle.block.specs.Content.{Content, WellFormed, withStatics}
 use Rattle.block.specs.Image.{image, contentOf}
 use Rattle.block.specs.Lookup.{Sized, keysOf, noStatic}
 use Rattle.block.specs.declared.rows.StaticRow.{StaticRow}
-use Rattle.block.proofs.ReadLaws.{many-vlans, many-statics, many-pairs}
+use Rattle.block.specs.declared.tables.Table.the-variants.{Vlan as vlan, Static as static, Pair as pair}
+use Rattle.block.proofs.ReadLaws.{many-in}
 use Rattle.block.proofs.ImageLaws.{length-image}
 use Rattle.block.specs.Stored.{StaticFits, Storable}
 use Rattle.block.proofs.RoundLaws.{contentOf-stored}
@@ -186,9 +187,9 @@ pub held-sized : {b : List ℕ} → IsImage b → Sized b
 held-sized {b} h =
     record {
       long = ap length (sym (h .same)) ∙ length-image (contentOf b) (h .shape);
-      fewVlans = omega (arith, many-vlans b, h .shape .fewVlans);
-      fewStatics = omega (arith, many-statics b, h .shape .fewStatics);
-      fewPairs = omega (arith, many-pairs b, h .shape .fewPairs);
+      fewVlans = omega (arith, many-in b vlan, h .shape .fewVlans);
+      fewStatics = omega (arith, many-in b static, h .shape .fewStatics);
+      fewPairs = omega (arith, many-in b pair, h .shape .fewPairs);
     }
 
 -- one turn

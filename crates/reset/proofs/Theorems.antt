@@ -10,7 +10,7 @@ use lib.ListN.{length}
 use borrow.Author.Tests.{eqb-true}
 use Rattle.names.specs.Index.{canHave, index}
 use Rattle.names.specs.declared.Shape.the-variants.{Static}
-use Rattle.names.specs.Ascending.{All, Rising}
+use Rattle.octets.specs.Ascending.{All, Rising}
 use Rattle.names.specs.declared.model.Model.{Model}
 use Rattle.block.specs.Content.{Content, withStatics, modelOf}
 use Rattle.block.specs.Image.{image, contentOf}
@@ -19,7 +19,7 @@ use Rattle.block.specs.Valid.{rowsOk, staticOk, valid, legal}
 use Rattle.block.specs.declared.rows.StaticRow.{StaticRow}
 use Rattle.block.specs.declared.tables.Table.the-variants.{Static as static}
 use Rattle.block.proofs.ValidParts.{Valid, valid-parts}
-use Rattle.block.proofs.KeepLaws.{RowsOk, rowsOk-parts, parts-rowsOk, rowsOk-rising, valid-statics, least-zero}
+use Rattle.block.proofs.KeepLaws.{RowsOk, rowsOk-parts, parts-rowsOk, rowsOk-rising, valid-rows, least-zero}
 use Rattle.block.proofs.RoundLaws.{contentOf-image, legal-image, legal-valid}
 use Rattle.block.proofs.AlterLaws.{look-below}
 use Rattle.reset.specs.Reset.{goes, stay, afterReset, resetBlock}
@@ -32,7 +32,7 @@ reset-valid c e =
     let v : Valid c = valid-parts c e in
     let m : Model = modelOf c in
     let p : RowsOk m Static (staticOk m) 0 (c .statics) = rowsOk-parts m Static (staticOk m) 0 (c .statics) (v .rowsIn static) in
-    valid-statics c e (stay (c .statics))
+    valid-rows c e static (stay (c .statics))
     (parts-rowsOk m Static (staticOk m) 0 (stay (c .statics))
     (record {
       rising = rising-stay (c .statics) (p .rising);

@@ -12,6 +12,11 @@ ghost use Rattle.message.specs.Answer.{mostOctets, boundAt};
 ghost use Rattle.message.specs.Request.{withBindings};
 ghost use Rattle.sending.specs.Writing.{shortened, berOctets, bindingBer, bindingsBer, responseFront, datagramFront, datagramOctets, responsesFrom, Writable, Ready, Put, sent, sentBy, sentAs, toDatagram};
 use ber::TOO_LONG;
+use ber::tags::BER_INTEGER;
+use ber::tags::BER_SEQUENCE;
+use ber::tags::BER_STRING;
+use ber::tags::RESPONSE_PDU;
+use message::refusals::ROOM_SHORT;
 use message::request::Binding;
 use message::request::Head;
 use message::sizes::MOST_OCTETS;
@@ -30,7 +35,8 @@ pub struct DatagramWritten {
     pub offset: u32,
 }
 
-const ROOM_SHORT: u32 = 1;
+// The version of SNMPv2c as a field of BER.
+const VERSION_FIELD: u64 = 0x020101;
 
 // The most octets of a binding: three headers of 4 octets, 128 sub-ids of 5, a content of 255 and a sign octet.
 const MOST_BOUND: usize = 908;
@@ -94,7 +100,7 @@ fn number_field(out: &mut [u8], p: usize, s: &[u8], at: usize, len: usize) -> us
     ensures { λ r. ⌜ Put (now (out .entry)) (now (out .exit)) r p (berOctets 0x02 (shortened (part (now (s .entry)) at len))) × (p ≤ r + (len + 4)) ⌝ }
 {
     let q = number_before(out, p, s, at, len);
-    header_before(out, q, 0x02, p - q)
+    header_before(out, q, BER_INTEGER, p - q)
 }
 
 // The field of a status or an index.
@@ -121,7 +127,7 @@ fn version_field(out: &mut [u8], p: usize) -> usize
     requires { ⌜ (3 ≤ p) × (p ≤ length (now out)) ⌝ }
     ensures { λ r. ⌜ Put (now (out .entry)) (now (out .exit)) r p (berOctets 0x02 (1 ∷ [])) × (p ≤ r + 3) ⌝ }
 {
-    put(out, p - 3, 3, 0x020101);
+    put(out, p - 3, 3, VERSION_FIELD);
     p - 3
 }
 
@@ -130,11 +136,11 @@ fn response_front(out: &mut [u8], p: usize, size: usize, id: u32, status: u8, in
     requires { ⌜ (28 ≤ p) × (p ≤ length (now out)) × (p + size < 65536) ⌝ }
     ensures { λ r. ⌜ Put (now (out .entry)) (now (out .exit)) r p (responseFront size id status index) × (p ≤ r + 28) ⌝ }
 {
-    let l = header_before(out, p, 0x30, size);
+    let l = header_before(out, p, BER_SEQUENCE, size);
     let x = octet_field(out, l, index);
     let t = octet_field(out, x, status);
     let i = id_field(out, t, id);
-    header_before(out, i, 0xA2, p - i + size)
+    header_before(out, i, RESPONSE_PDU, p - i + size)
 }
 
 // Puts what stands before the community before place p, and gives the place where it starts: rest is the size of the response.
@@ -142,9 +148,9 @@ fn datagram_front(out: &mut [u8], p: usize, community: usize, rest: usize) -> us
     requires { ⌜ (11 ≤ p) × (p ≤ length (now out)) × (p + (community + rest) < 65536) ⌝ }
     ensures { λ r. ⌜ Put (now (out .entry)) (now (out .exit)) r p (datagramFront community rest) × (p ≤ r + 11) ⌝ }
 {
-    let c = header_before(out, p, 0x04, community);
+    let c = header_before(out, p, BER_STRING, community);
     let v = version_field(out, c);
-    header_before(out, v, 0x30, p - v + (community + rest))
+    header_before(out, v, BER_SEQUENCE, p - v + (community + rest))
 }
 
 fn not_written(number: u32, offset: u32) -> DatagramWritten

@@ -13,8 +13,9 @@ use message::form::KIND_FIELD_AT;
 use message::form::MOST_BINDINGS;
 use message::form::Refusal;
 use message::form::Role;
-use message::form::WRONG_HEAD;
 use message::form::checked_at;
+use message::kinds::RESPONSE;
+use message::refusals::HEAD_WRONG;
 use message::request::Binding;
 use message::request::BindingRead;
 use message::request::Head;
@@ -89,11 +90,11 @@ pub fn response_head(s: &[u8]) -> Head
             start: _,
             len: _,
         } => {
-            if s[KIND_AT] == 2 {
+            if s[KIND_AT] == RESPONSE {
                 id_of(s, 2)
             } else {
                 Head::Refused(Refusal {
-                    number: WRONG_HEAD,
+                    number: HEAD_WRONG,
                     at: KIND_FIELD_AT,
                 })
             }

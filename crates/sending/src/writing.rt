@@ -9,7 +9,24 @@ ghost use Rattle.message.specs.Form.{contentLength};
 ghost use Rattle.message.specs.Answer.{boundAt};
 ghost use Rattle.sending.specs.Writing.{headerForm, goingOn, base128, shortened, nameBer, nameWritten, berTag, contentBer, bindingBer, berOctets, Writable, Put};
 use ber::is_fewest;
+use ber::tags::BER_COUNTER;
+use ber::tags::BER_END_OF_VIEW;
+use ber::tags::BER_INTEGER;
+use ber::tags::BER_NAME;
+use ber::tags::BER_NO_SUCH_INSTANCE;
+use ber::tags::BER_NO_SUCH_OBJECT;
+use ber::tags::BER_NULL;
+use ber::tags::BER_SEQUENCE;
+use ber::tags::BER_STRING;
+use ber::tags::BER_UNSIGNED;
 use message::request::Binding;
+use message::tags::COUNTER;
+use message::tags::INTEGER;
+use message::tags::NO_SUCH_INSTANCE;
+use message::tags::NO_SUCH_OBJECT;
+use message::tags::NULL;
+use message::tags::STRING;
+use message::tags::UNSIGNED;
 use octets::numbers::be4;
 use octets::numbers::put;
 use octets::parts::copy_in;
@@ -64,28 +81,28 @@ pub fn base128_before(out: &mut [u8], p: usize, n: u64) -> usize
 pub fn ber_tag(tag: u8) -> u8
     ensures { λ r. ⌜ r ≡ berTag tag ⌝ }
 {
-    if tag == 0x20 {
-        return 0x05;
+    if tag == NULL {
+        return BER_NULL;
     }
-    if tag == 0x21 {
-        return 0x02;
+    if tag == INTEGER {
+        return BER_INTEGER;
     }
-    if tag == 0x22 {
-        return 0x04;
+    if tag == STRING {
+        return BER_STRING;
     }
-    if tag == 0x23 {
-        return 0x42;
+    if tag == UNSIGNED {
+        return BER_UNSIGNED;
     }
-    if tag == 0x24 {
-        return 0x41;
+    if tag == COUNTER {
+        return BER_COUNTER;
     }
-    if tag == 0x30 {
-        return 0x80;
+    if tag == NO_SUCH_OBJECT {
+        return BER_NO_SUCH_OBJECT;
     }
-    if tag == 0x31 {
-        return 0x81;
+    if tag == NO_SUCH_INSTANCE {
+        return BER_NO_SUCH_INSTANCE;
     }
-    0x82
+    BER_END_OF_VIEW
 }
 
 // How many octets in front of a number only repeat its sign.
@@ -145,10 +162,10 @@ pub fn content_before(out: &mut [u8], p: usize, tag: u8, s: &[u8], at: usize, le
     requires { ⌜ (at + len ≤ length (now s)) × (contentLength tag len ≡ true) × (len + 1 ≤ p) × (p ≤ length (now out)) ⌝ }
     ensures { λ r. ⌜ (r + length (contentBer tag (part (now (s .entry)) at len)) ≡ p) × (now (out .exit) ≡ patch (now (out .entry)) r (contentBer tag (part (now (s .entry)) at len))) ⌝ }
 {
-    if tag == 0x21 {
+    if tag == INTEGER {
         return number_before(out, p, s, at, len);
     }
-    if (tag == 0x23) | (tag == 0x24) {
+    if (tag == UNSIGNED) | (tag == COUNTER) {
         let five = signed_five(s, at);
         return number_before(out, p, &five, 0, 5);
     }
@@ -171,7 +188,7 @@ fn name_field(out: &mut [u8], p: usize, s: &[u8], at: usize, n: usize) -> usize
     ensures { λ r. ⌜ Put (now (out .entry)) (now (out .exit)) r p (berOctets 0x06 (nameBer (part (now (s .entry)) at (4 * n)))) × (p ≤ r + (5 * n + 4)) ⌝ }
 {
     let q = name_before(out, p, s, at, n);
-    header_before(out, q, 0x06, p - q)
+    header_before(out, q, BER_NAME, p - q)
 }
 
 // Puts a binding of our form as one of BER before place p, and gives the place where it starts.
@@ -181,5 +198,5 @@ pub fn bound_before(out: &mut [u8], p: usize, s: &[u8], b: Binding) -> usize
 {
     let c = content_field(out, p, b.tag, s, b.content, b.len);
     let n = name_field(out, c, s, b.name, b.size / 4);
-    header_before(out, n, 0x30, p - n)
+    header_before(out, n, BER_SEQUENCE, p - n)
 }

@@ -9,9 +9,10 @@ use lib.ListN.{length, getD, set}
 use borrow.Author.Tests.{ltb-true, leb-true, le-leb, eqb-true}
 use Rattle.tally.specs.declared.RbCase.{RbCase}
 use Rattle.tally.specs.Codes.{mostCases}
-use Rattle.tally.specs.Run.{countIf, someIf, allIf, hasId, running, known, above, ascending, legalCases, restated, changed}
+use Rattle.octets.specs.Lists.{every}
+use Rattle.tally.specs.Run.{countIf, someIf, hasId, running, known, above, ascending, legalCases, restated, changed}
 use Rattle.tally.specs.Scan.{none}
-use Rattle.tally.proofs.TestLaws.{by-bool, and-left, and-right, and-both, not-both-ways}
+use Rattle.octets.proofs.BoolLaws.{by-bool, left-of, right-of, and-both, not-both-ways}
 
 -- where the first of them stands
 unfoldable pub firstIf : (RbCase → Bool) → List RbCase → ℕ
@@ -54,16 +55,16 @@ pub above-none : (k n : ℕ) (cs : List RbCase) → above n cs ≡ true → k �
 unfolding above countIf
 above-none k n [] e h = refl
 above-none k n (c ∷ cs) e h =
-    let l : n < c .id = ltb-true n (c .id) (and-left (ltb n (c .id)) (above (c .id) cs) e) in
-    let r : countIf (hasId k) cs ≡ 0 = above-none k (c .id) cs (and-right (ltb n (c .id)) (above (c .id) cs) e) (omega arith) in
+    let l : n < c .id = ltb-true n (c .id) (left-of (ltb n (c .id)) (above (c .id) cs) e) in
+    let r : countIf (hasId k) cs ≡ 0 = above-none k (c .id) cs (right-of (ltb n (c .id)) (above (c .id) cs) e) (omega arith) in
     by-bool (hasId k c) (λ t. let s : c .id ≡ k = eqb-true (c .id) k t in absurd (omega arith)) (λ t. rw t r)
 
 pub above-once : (k n : ℕ) (cs : List RbCase) → above n cs ≡ true → countIf (hasId k) cs ≤ 1
 unfolding above countIf
 above-once k n [] e = omega arith
 above-once k n (c ∷ cs) e =
-    by-bool (hasId k c) (λ t. let s : c .id ≡ k = eqb-true (c .id) k t in let r : countIf (hasId k) cs ≡ 0 = above-none k (c .id) cs (and-right (ltb n (c .id)) (above (c .id) cs) e) (omega arith) in rw t (omega arith))
-    (λ t. rw t (above-once k (c .id) cs (and-right (ltb n (c .id)) (above (c .id) cs) e)))
+    by-bool (hasId k c) (λ t. let s : c .id ≡ k = eqb-true (c .id) k t in let r : countIf (hasId k) cs ≡ 0 = above-none k (c .id) cs (right-of (ltb n (c .id)) (above (c .id) cs) e) (omega arith) in rw t (omega arith))
+    (λ t. rw t (above-once k (c .id) cs (right-of (ltb n (c .id)) (above (c .id) cs) e)))
 
 pub ascending-once : (k : ℕ) (cs : List RbCase) → ascending cs ≡ true → countIf (hasId k) cs ≤ 1
 unfolding ascending countIf
@@ -76,23 +77,23 @@ ascending-once k (c ∷ cs) e =
 pub record Legal (cs : List RbCase) : Type 0 where
   pub short : length cs ≤ mostCases
   pub order : ascending cs ≡ true
-  pub knows : allIf known cs ≡ true
+  pub knows : every known cs ≡ true
   pub single : countIf running cs ≤ 1
 
 pub legal-parts : (cs : List RbCase) → legalCases cs ≡ true → Legal cs
 unfolding legalCases
 legal-parts cs e =
-    let l = and-left (leb (length cs) mostCases && ascending cs) (allIf known cs && leb (countIf running cs) 1) e in
-    let r = and-right (leb (length cs) mostCases && ascending cs) (allIf known cs && leb (countIf running cs) 1) e in
+    let l = left-of (leb (length cs) mostCases && ascending cs) (every known cs && leb (countIf running cs) 1) e in
+    let r = right-of (leb (length cs) mostCases && ascending cs) (every known cs && leb (countIf running cs) 1) e in
     record {
-      short = leb-true (length cs) mostCases (and-left (leb (length cs) mostCases) (ascending cs) l);
-      order = and-right (leb (length cs) mostCases) (ascending cs) l;
-      knows = and-left (allIf known cs) (leb (countIf running cs) 1) r;
-      single = leb-true (countIf running cs) 1 (and-right (allIf known cs) (leb (countIf running cs) 1) r);
+      short = leb-true (length cs) mostCases (left-of (leb (length cs) mostCases) (ascending cs) l);
+      order = right-of (leb (length cs) mostCases) (ascending cs) l;
+      knows = left-of (every known cs) (leb (countIf running cs) 1) r;
+      single = leb-true (countIf running cs) 1 (right-of (every known cs) (leb (countIf running cs) 1) r);
     }
 
 pub parts-legal : (cs : List RbCase) → Legal cs → legalCases cs ≡ true
 unfolding legalCases
 parts-legal cs l =
-    and-both (leb (length cs) mostCases && ascending cs) (allIf known cs && leb (countIf running cs) 1) (and-both (leb (length cs) mostCases) (ascending cs) (le-leb (length cs) mostCases (l .short)) (l .order))
-    (and-both (allIf known cs) (leb (countIf running cs) 1) (l .knows) (le-leb (countIf running cs) 1 (l .single)))
+    and-both (leb (length cs) mostCases && ascending cs) (every known cs && leb (countIf running cs) 1) (and-both (leb (length cs) mostCases) (ascending cs) (le-leb (length cs) mostCases (l .short)) (l .order))
+    (and-both (every known cs) (leb (countIf running cs) 1) (l .knows) (le-leb (countIf running cs) 1 (l .single)))

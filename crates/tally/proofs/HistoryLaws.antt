@@ -9,25 +9,19 @@ use lib.ListN.{length-map}
 use borrow.Author.Tests.{eqb-true, eqb-false, eq-eqb, ne-eqb, leb-true, le-leb, not-false}
 use Rattle.tally.specs.declared.RbCase.{RbCase}
 use Rattle.tally.specs.Codes.{stateNotRun, stateRunning, stateBroken, eventStart, eventPass, eventFail, eventCrash, eventEnd, markClear}
-use Rattle.tally.specs.Run.{countIf, someIf, allIf, hasId, running, known, above, ascending, legalCases, markFits, legalRun, unknown, notStartable, noneRunning, stateOf, stateAfter, changed, became, markAfter}
+use Rattle.octets.specs.Lists.{every}
+use Rattle.tally.specs.Run.{countIf, someIf, hasId, running, known, above, ascending, legalCases, markFits, legalRun, unknown, notStartable, noneRunning, stateOf, stateAfter, changed, became, markAfter}
 use Rattle.tally.specs.History.{Event, names, closedBy, told, toldFrom, asToldFrom}
-use Rattle.tally.proofs.TestLaws.{by-bool, and-left, and-right, not-both-ways}
+use Rattle.octets.specs.Ascending.{All}
+use Rattle.octets.proofs.AllLaws.{all-so, all-both, all-any}
+use Rattle.octets.proofs.BoolLaws.{by-bool, left-of, right-of, not-both-ways}
 use Rattle.tally.proofs.CaseLaws.{count-none, none-count, ascending-once, Legal, legal-parts, parts-legal}
 use Rattle.tally.proofs.NumberLaws.{Taken}
 
 -- ---- what holds of every case of a list
-pub data All (Q : RbCase → Type 0) : List RbCase → Type 0 where
-  end : All Q []
-  more : {c : RbCase} {cs : List RbCase} → Q c → All Q cs → All Q (c ∷ cs)
-
-module _ {Q P : RbCase → Type 0} (f : (c : RbCase) → Q c → P c) where
-  pub all-map : {cs : List RbCase} → All Q cs → All P cs
-  all-map end = end
-  all-map (more q a) = more (f _ q) (all-map a)
-
 pub map-same : (f g : RbCase → RbCase) (cs : List RbCase) → All (λ c. f c ≡ g c) cs → map f cs ≡ map g cs
-map-same f g [] end = refl
-map-same f g (c ∷ cs) (more e a) = rw (e, map-same f g cs a)
+map-same f g [] a = refl
+map-same f g (c ∷ cs) a = rw (a .0, map-same f g cs (a .1))
 
 pub map-map : (f g : RbCase → RbCase) (cs : List RbCase) → map f (map g cs) ≡ map (λ c. f (g c)) cs
 map-map f g [] = refl
@@ -35,8 +29,8 @@ map-map f g (c ∷ cs) = ap (λ (l : List RbCase). f (g c) ∷ l) (map-map f g c
 
 pub all-false : (p : RbCase → Bool) (cs : List RbCase) → someIf p cs ≡ false → All (λ c. p c ≡ false) cs
 unfolding someIf
-all-false p [] e = end
-all-false p (c ∷ cs) e = by-bool (p c) (λ t. not-both-ways refl (rw t at e)) (λ t. more t (all-false p cs (rw t at e)))
+all-false p [] e = tt
+all-false p (c ∷ cs) e = by-bool (p c) (λ t. not-both-ways refl (rw t at e)) (λ t. (t, all-false p cs (rw t at e)))
 
 -- ---- the list after a change
 module _ (p : RbCase → Bool) (state : ℕ) where
@@ -53,12 +47,12 @@ module _ (p : RbCase → Bool) (state : ℕ) where
   ascending-changed [] = refl
   ascending-changed (c ∷ cs) = rw (changed-id c, above-changed (c .id) cs)
 
-  pub known-changed : (cs : List RbCase) → leb state stateBroken ≡ true → allIf known cs ≡ true → allIf known (map (changed p state) cs) ≡ true
-  unfolding allIf
+  pub known-changed : (cs : List RbCase) → leb state stateBroken ≡ true → every known cs ≡ true → every known (map (changed p state) cs) ≡ true
+  unfolding every
   known-changed [] s e = refl
   known-changed (c ∷ cs) s e =
-      let r = known-changed cs s (and-right (known c) (allIf known cs) e) in
-      by-bool (p c) (λ t. rw (t, s) r) (λ t. rw (t, and-left (known c) (allIf known cs) e) r)
+      let r = known-changed cs s (right-of (known c) (every known cs) e) in
+      by-bool (p c) (λ t. rw (t, s) r) (λ t. rw (t, left-of (known c) (every known cs) e) r)
 
 closed-running : (state : ℕ) (cs : List RbCase) → eqb state stateRunning ≡ false → someIf running (map (changed running state) cs) ≡ false
 unfolding someIf
@@ -72,23 +66,15 @@ started-running p (c ∷ cs) e =
     by-bool (running c) (λ t. not-both-ways refl (rw t at e))
     (λ t. let r = started-running p cs (rw t at e) in by-bool (p c) (λ s. rw s (ap suc r)) (λ s. rw (s, t) r))
 
-pub all-both : {Q P : RbCase → Type 0} {cs : List RbCase} → All Q cs → All P cs → All (λ c. Q c × P c) cs
-all-both end end = end
-all-both (more q a) (more p b) = more (q, p) (all-both a b)
-
-all-any : (Q : RbCase → Type 0) → ((c : RbCase) → Q c) → (cs : List RbCase) → All Q cs
-all-any Q f [] = end
-all-any Q f (c ∷ cs) = more (f c) (all-any Q f cs)
-
 -- an id that stands once names one state
 pub named-states : (id : ℕ) (cs : List RbCase) → countIf (hasId id) cs ≤ 1 → All (λ c. hasId id c ≡ true → c .state ≡ stateOf id cs) cs
 unfolding countIf stateOf
-named-states id [] h = end
+named-states id [] h = tt
 named-states id (c ∷ cs) h =
     by-bool (hasId id c)
     (λ t. let z : countIf (hasId id) cs ≡ 0 = omega (arith, rw t at h) in
-    more (λ _. rw t) (all-map (λ d f g. not-both-ways g f) (all-false (hasId id) cs (count-none (hasId id) cs z))))
-    (λ t. more (λ g. not-both-ways g t) (rw t (named-states id cs (rw t at h))))
+    ((λ _. rw t), all-so _ _ (λ d f g. not-both-ways g f) cs (all-false (hasId id) cs (count-none (hasId id) cs z))))
+    (λ t. ((λ g. not-both-ways g t), rw t (named-states id cs (rw t at h))))
 
 -- a listed case that is running is among those that run
 pub named-runs : (id : ℕ) (cs : List RbCase) → someIf (hasId id) cs ≡ true → stateOf id cs ≡ stateRunning → someIf running cs ≡ true
@@ -101,14 +87,14 @@ named-runs id (c ∷ cs) l e =
 -- where one runs at most, and the case with this id runs, whatever runs has this id
 pub runner-named : (id : ℕ) (cs : List RbCase) → countIf running cs ≤ 1 → someIf (hasId id) cs ≡ true → stateOf id cs ≡ stateRunning → All (λ c. running c ≡ true → c .id ≡ id) cs
 unfolding countIf someIf stateOf
-runner-named id [] h l e = end
+runner-named id [] h l e = tt
 runner-named id (c ∷ cs) h l e =
     by-bool (hasId id c)
     (λ t. let s : c .state ≡ stateRunning = rw t at e in let z : countIf running cs ≡ 0 = omega (arith, rw (eq-eqb (c .state) stateRunning s) at h) in
-    more (λ _. eqb-true (c .id) id t) (all-map (λ d f g. not-both-ways g f) (all-false running cs (count-none running cs z))))
+    ((λ _. eqb-true (c .id) id t), all-so _ _ (λ d f g. not-both-ways g f) cs (all-false running cs (count-none running cs z))))
     (λ t. by-bool (running c)
     (λ s. let z : countIf running cs ≡ 0 = omega (arith, rw s at h) in not-both-ways (named-runs id cs (rw t at l) (rw t at e)) (count-none running cs z))
-    (λ s. more (λ g. not-both-ways g s) (runner-named id cs (rw s at h) (rw t at l) (rw t at e))))
+    (λ s. ((λ g. not-both-ways g s), runner-named id cs (rw s at h) (rw t at l) (rw t at e))))
 
 -- ---- what an event says of one case, against what it does to it
 pub by-kind : (P : ℕ → Type 0) → P eventPass → P eventFail → P eventCrash → P eventEnd → (event : ℕ) → eqb event eventStart ≡ false → eventStart ≤ event → event ≤ eventEnd → P event
@@ -158,14 +144,14 @@ told-close event id es c n l h f =
 module _ (cs : List RbCase) (m event id : ℕ) (a : Taken cs m event id) where
   lawful : Legal cs
   unfolding legalRun
-  lawful = legal-parts cs (and-left (legalCases cs) (markFits m (someIf running cs)) (a .is-legal))
+  lawful = legal-parts cs (left-of (legalCases cs) (markFits m (someIf running cs)) (a .is-legal))
 
   -- the mark is clear
   clear : m ≡ 0
   unfolding legalRun markFits
   clear =
       by-bool (eqb m markClear) (λ t. eqb-true m 0 t)
-      (λ t. let e = and-right (legalCases cs) (markFits m (someIf running cs)) (a .is-legal) in not-both-ways (rw (t, a .unended) at e) refl)
+      (λ t. let e = right-of (legalCases cs) (markFits m (someIf running cs)) (a .is-legal) in not-both-ways (rw (t, a .unended) at e) refl)
 
   in-range : (eventStart ≤ event) × (event ≤ eventEnd)
   unfolding unknown
@@ -187,7 +173,7 @@ module _ (cs : List RbCase) (m event id : ℕ) (a : Taken cs m event id) where
     start-told : (es : List Event) → map (asToldFrom es) (map (changed (hasId id) stateRunning) cs) ≡ map (asToldFrom (record { kind = eventStart; id = id } ∷ es)) cs
     start-told es =
         map-map (asToldFrom es) (changed (hasId id) stateRunning) cs ∙ map-same (λ c. asToldFrom es (changed (hasId id) stateRunning c)) (asToldFrom (record { kind = eventStart; id = id } ∷ es)) cs
-        (all-map (λ c f. told-start id es c (f .0, λ t. f .1 t ∙ start-free .0)) (all-both (all-false running cs (start-free .1)) (named-states id cs (ascending-once id cs (lawful .order)))))
+        (all-so _ _ (λ c f. told-start id es c (f .0, λ t. f .1 t ∙ start-free .0)) cs (all-both _ _ cs (all-false running cs (start-free .1)) (named-states id cs (ascending-once id cs (lawful .order)))))
 
     start-legal : Legal (map (changed (hasId id) stateRunning) cs)
     start-legal = record {
@@ -216,11 +202,11 @@ module _ (cs : List RbCase) (m event id : ℕ) (a : Taken cs m event id) where
     other-told : (es : List Event) → map (asToldFrom es) (map (changed running (stateAfter event)) cs) ≡ map (asToldFrom (record { kind = event; id = id } ∷ es)) cs
     other-told es =
         map-map (asToldFrom es) (changed running (stateAfter event)) cs ∙ map-same (λ c. asToldFrom es (changed running (stateAfter event) c)) (asToldFrom (record { kind = event; id = id } ∷ es)) cs
-        (all-map (λ c f. told-close event id es c other (in-range .0) (in-range .1) f) facts)
+        (all-so _ _ (λ c f. told-close event id es c other (in-range .0) (in-range .1) f) cs facts)
       where
         facts : All (λ c. running c ≡ true → leb event eventFail ≡ true → c .id ≡ id) cs
         facts =
-            by-bool (leb event eventFail) (λ t. all-map (λ c f g _. f g) (runner-named id cs (lawful .single) (names-runner t .0) (names-runner t .1)))
+            by-bool (leb event eventFail) (λ t. all-so _ _ (λ c f g _. f g) cs (runner-named id cs (lawful .single) (names-runner t .0) (names-runner t .1)))
             (λ t. all-any (λ c. running c ≡ true → leb event eventFail ≡ true → c .id ≡ id) (λ c g s. not-both-ways s t) cs)
 
     closing-state : (leb (stateAfter event) stateBroken ≡ true) × (eqb (stateAfter event) stateRunning ≡ false)

@@ -9,7 +9,7 @@ use borrow.Author.Tests.{eqb-true, leb-false, ne-eqb, not-false}
 use Rattle.tally.specs.declared.RbCase.{RbCase}
 use Rattle.tally.specs.Codes.{eventStart, eventFail, markSet, refusedUnknown, refusedStart, refusedVerdict, refusedEnded, refusedRun}
 use Rattle.tally.specs.Run.{someIf, hasId, running, legalRun, eventJudged, unknown, notStartable, noneRunning, stateOf, number}
-use Rattle.tally.proofs.TestLaws.{by-bool}
+use Rattle.octets.proofs.BoolLaws.{by-bool}
 
 -- where the id is not listed, no number depends on a state
 unlisted : (ok : Bool) (m event : ℕ) (runs : Bool) (a b : ℕ) → eventJudged ok m event false runs a ≡ eventJudged ok m event false runs b

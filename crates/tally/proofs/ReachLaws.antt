@@ -9,11 +9,14 @@ use lib.ListN.{length, length-map}
 use borrow.Author.Tests.{eqb-true, eqb-false, eq-eqb, ne-eqb, leb-true, leb-false, le-leb, not-true, not-false}
 use Rattle.tally.specs.declared.RbCase.{RbCase}
 use Rattle.tally.specs.Codes.{mostCases, stateNotRun, stateRunning, stateFailed, stateBroken, eventStart, eventCrash, eventEnd, markClear, markSet, accepted}
-use Rattle.tally.specs.Run.{countIf, someIf, allIf, hasId, running, known, isNotRun, ascending, legalCases, markFits, legalRun, eventJudged, unknown, notStartable, noneRunning, stateOf, number, stateAfter, restated, changed, became, markAfter}
+use Rattle.octets.specs.Lists.{every}
+use Rattle.tally.specs.Run.{countIf, someIf, hasId, running, known, isNotRun, ascending, legalCases, markFits, legalRun, eventJudged, unknown, notStartable, noneRunning, stateOf, number, stateAfter, restated, changed, became, markAfter}
 use Rattle.tally.specs.History.{Run, Event, fed, after, newRun}
-use Rattle.tally.proofs.TestLaws.{by-bool, and-left, and-right, not-both-ways}
+use Rattle.octets.specs.Ascending.{All}
+use Rattle.octets.proofs.AllLaws.{all-so, all-both}
+use Rattle.octets.proofs.BoolLaws.{by-bool, left-of, right-of, not-both-ways}
 use Rattle.tally.proofs.CaseLaws.{count-none, none-count, change-none, ascending-once, Legal, legal-parts, parts-legal}
-use Rattle.tally.proofs.HistoryLaws.{All, end, more, all-map, all-both, all-false, map-map, named-states, named-runs, runner-named, by-kind, changed-id, ascending-changed, known-changed, legal-on}
+use Rattle.tally.proofs.HistoryLaws.{all-false, map-map, named-states, named-runs, runner-named, by-kind, changed-id, ascending-changed, known-changed, legal-on}
 use Rattle.tally.proofs.NumberLaws.{taken}
 
 after-two : (r : Run) (es fs : List Event) → after r (es ++ fs) ≡ after (after r es) fs
@@ -21,9 +24,9 @@ unfolding after
 after-two r [] fs = refl
 after-two r (e ∷ es) fs = after-two (fed r e) es fs
 
-map-fixed : (f : RbCase → RbCase) {cs : List RbCase} → All (λ c. f c ≡ c) cs → map f cs ≡ cs
-map-fixed f end = refl
-map-fixed f (more e a) = rw (e, map-fixed f a)
+map-fixed : (f : RbCase → RbCase) (cs : List RbCase) → All (λ c. f c ≡ c) cs → map f cs ≡ cs
+map-fixed f [] a = refl
+map-fixed f (c ∷ cs) a = rw (a .0, map-fixed f cs (a .1))
 
 -- ---- one id set to a state
 module _ (id k : ℕ) where
@@ -38,12 +41,12 @@ module _ (id k : ℕ) where
   state-set (c ∷ cs) e = by-bool (hasId id c) (λ t. rw (t, t)) (λ t. rw (t, t) (state-set cs (rw t at e)))
 
   -- where whatever runs has this id, none runs afterwards
-  runs-set : {cs : List RbCase} → eqb k stateRunning ≡ false → All (λ c. running c ≡ true → c .id ≡ id) cs → someIf running (map (changed (hasId id) k) cs) ≡ false
+  runs-set : (cs : List RbCase) → eqb k stateRunning ≡ false → All (λ c. running c ≡ true → c .id ≡ id) cs → someIf running (map (changed (hasId id) k) cs) ≡ false
   unfolding someIf
-  runs-set n end = refl
-  runs-set n (more {c} {cs} f a) =
-      by-bool (hasId id c) (λ t. rw (t, n) (runs-set n a))
-      (λ t. by-bool (running c) (λ s. not-both-ways (eq-eqb (c .id) id (f s)) t) (λ s. rw (t, s) (runs-set n a)))
+  runs-set [] n a = refl
+  runs-set (c ∷ cs) n a =
+      by-bool (hasId id c) (λ t. rw (t, n) (runs-set cs n (a .1)))
+      (λ t. by-bool (running c) (λ s. not-both-ways (eq-eqb (c .id) id (a .0 s)) t) (λ s. rw (t, s) (runs-set cs n (a .1))))
 
 -- the ids of a list, none run
 newRun-set : (p : RbCase → Bool) (k : ℕ) (cs : List RbCase) → map (restated stateNotRun) (map (changed p k) cs) ≡ map (restated stateNotRun) cs
@@ -129,7 +132,7 @@ module _ (cs : List RbCase) (l : Legal cs) (id : ℕ) (listed : someIf (hasId id
   back = map (changed (hasId id) stateNotRun) cs
 
   back-free : someIf running back ≡ false
-  back-free = runs-set id 0 refl alone
+  back-free = runs-set id 0 cs refl alone
 
   back-parts : Legal back
   back-parts = record {
@@ -157,7 +160,7 @@ module _ (cs : List RbCase) (l : Legal cs) (id : ℕ) (listed : someIf (hasId id
   begun-runs : stateOf id cs ≡ stateRunning → begun ≡ cs
   begun-runs z =
       map-map (changed (hasId id) stateRunning) (changed (hasId id) stateNotRun) cs
-      ∙ map-fixed (λ c. changed (hasId id) stateRunning (changed (hasId id) stateNotRun c)) (all-map (λ c (f : hasId id c ≡ true → c .state ≡ stateOf id cs). again c (λ t. f t ∙ z)) (named-states id cs (ascending-once id cs (l .order))))
+      ∙ map-fixed (λ c. changed (hasId id) stateRunning (changed (hasId id) stateNotRun c)) cs (all-so _ _ (λ c (f : hasId id c ≡ true → c .state ≡ stateOf id cs). again c (λ t. f t ∙ z)) cs (named-states id cs (ascending-once id cs (l .order))))
     where
       again : (c : RbCase) → (hasId id c ≡ true → c .state ≡ stateRunning) → changed (hasId id) stateRunning (changed (hasId id) stateNotRun c) ≡ c
       again c f = by-bool (hasId id c) (λ t. rw (t, t) (ap (λ (n : ℕ). record { id = c .id; state = n }) (sym (f t)))) (λ t. rw (t, t))
@@ -167,7 +170,7 @@ module _ (cs : List RbCase) (l : Legal cs) (id : ℕ) (listed : someIf (hasId id
   closed-again k z n =
       map-map (changed running k) (changed (hasId id) stateRunning) back ∙ map-map (λ c. changed running k (changed (hasId id) stateRunning c)) (changed (hasId id) stateNotRun) cs
       ∙ map-fixed (λ c. changed running k (changed (hasId id) stateRunning (changed (hasId id) stateNotRun c)))
-      (all-map (λ c (f : (running c ≡ false) × (hasId id c ≡ true → c .state ≡ stateOf id cs)). again c (f .0) (λ t. f .1 t ∙ z)) (all-both (all-false running cs n) (named-states id cs (ascending-once id cs (l .order)))))
+      cs (all-so _ _ (λ c (f : (running c ≡ false) × (hasId id c ≡ true → c .state ≡ stateOf id cs)). again c (f .0) (λ t. f .1 t ∙ z)) cs (all-both _ _ cs (all-false running cs n) (named-states id cs (ascending-once id cs (l .order)))))
     where
       again : (c : RbCase) → running c ≡ false → (hasId id c ≡ true → c .state ≡ k) → changed running k (changed (hasId id) stateRunning (changed (hasId id) stateNotRun c)) ≡ c
       again c s f = by-bool (hasId id c) (λ t. rw (t, t) (ap (λ (m : ℕ). record { id = c .id; state = m }) (sym (f t)))) (λ t. rw (t, t, s))
@@ -179,7 +182,7 @@ Reached cs = (es : List Event) × (after (newRun cs) es ≡ record { cases = cs;
 -- none is started: no event is needed
 none-started : (cs : List RbCase) → someIf started cs ≡ false → Reached cs
 unfolding Reached after
-none-started cs n = ([], ap (λ (l : List RbCase). record { cases = l; mark = markClear }) (map-fixed (restated stateNotRun) (all-map (λ c (f : started c ≡ false). not-run-is c f) (all-false started cs n))))
+none-started cs n = ([], ap (λ (l : List RbCase). record { cases = l; mark = markClear }) (map-fixed (restated stateNotRun) cs (all-so _ _ (λ c (f : started c ≡ false). not-run-is c f) cs (all-false started cs n))))
   where
     not-run-is : (c : RbCase) → started c ≡ false → restated stateNotRun c ≡ c
     not-run-is c f = ap (λ (n : ℕ). record { id = c .id; state = n }) (sym (eqb-true (c .state) 0 (not-false (isNotRun c) f)))
@@ -200,11 +203,11 @@ closed-is : (k : ℕ) → leb k stateBroken ≡ true → eqb k stateNotRun ≡ f
 unfolding stateAfter
 closed-is k h z o = by-bool (leb k stateFailed) (λ t. rw t) (λ t. rw t (omega (arith, leb-true k stateBroken h, leb-false k stateFailed t)))
 
-known-of : (id : ℕ) (cs : List RbCase) → allIf known cs ≡ true → someIf (hasId id) cs ≡ true → stateOf id cs ≤ stateBroken
-unfolding allIf someIf stateOf
+known-of : (id : ℕ) (cs : List RbCase) → every known cs ≡ true → someIf (hasId id) cs ≡ true → stateOf id cs ≤ stateBroken
+unfolding every someIf stateOf
 known-of id [] h e = not-both-ways e refl
 known-of id (c ∷ cs) h e =
-    by-bool (hasId id c) (λ t. rw t (leb-true (c .state) stateBroken (and-left (known c) (allIf known cs) h))) (λ t. rw t (known-of id cs (and-right (known c) (allIf known cs) h) (rw t at e)))
+    by-bool (hasId id c) (λ t. rw t (leb-true (c .state) stateBroken (left-of (known c) (every known cs) h))) (λ t. rw t (known-of id cs (right-of (known c) (every known cs) h) (rw t at e)))
 
 pub reach : (n : ℕ) (cs : List RbCase) → countIf started cs ≤ n → Legal cs → Reached cs
 reach zero cs few l = none-started cs (count-none started cs (omega arith))
@@ -220,7 +223,7 @@ reach (suc n) cs few l =
     (λ t. let q = pick started cs (λ k. ascending-once k cs (l .order)) some in
     let id = q .one .id in
     let k = stateOf id cs in
-    let alone : All (λ c. running c ≡ true → c .id ≡ id) cs = all-map (λ c (f : running c ≡ false) (g : running c ≡ true). not-both-ways g f) (all-false running cs t) in
+    let alone : All (λ c. running c ≡ true → c .id ≡ id) cs = all-so (λ c. running c ≡ false) (λ c. running c ≡ true → c .id ≡ id) (λ c f g. not-both-ways g f) cs (all-false running cs t) in
     let nonzero : eqb k 0 ≡ false = rw (q .stands) (not-true (isNotRun (q .one)) (q .holds)) in
     let other : eqb k stateRunning ≡ false = by-bool (eqb k stateRunning) (λ s. not-both-ways (named-runs id cs (q .listed) (eqb-true k stateRunning s)) t) (λ s. s) in
     let low : k ≤ stateBroken = known-of id cs (l .knows) (q .listed) in
@@ -243,8 +246,8 @@ pub reach-open : (cs : List RbCase) → legalCases cs ≡ true → Reached cs
 reach-open cs ok = reach (countIf started cs) cs (omega arith) (legal-parts cs ok)
 
 -- ---- a new run
-newRun-known : (cs : List RbCase) → allIf known (map (restated stateNotRun) cs) ≡ true
-unfolding allIf
+newRun-known : (cs : List RbCase) → every known (map (restated stateNotRun) cs) ≡ true
+unfolding every
 newRun-known [] = refl
 newRun-known (c ∷ cs) = newRun-known cs
 

@@ -14,9 +14,10 @@ use Rattle.tally.specs.declared.RbCase.{RbCase}
 use Rattle.tally.specs.declared.steps.Scan.{Scan}
 use Rattle.tally.specs.declared.judge.RbReport.{RbReport}
 use Rattle.tally.specs.Codes.{mostCases}
-use Rattle.tally.specs.Run.{countIf, someIf, allIf, hasId, running, known, isPassed, isFailed, isBroken, isNotRun, above, ascending, legalCases, stateOf}
+use Rattle.octets.specs.Lists.{every}
+use Rattle.tally.specs.Run.{countIf, someIf, hasId, running, known, isPassed, isFailed, isBroken, isNotRun, above, ascending, legalCases, stateOf}
 use Rattle.tally.specs.Scan.{none, fresh, more, soundAt, stepOf, scanFrom, scanned}
-use Rattle.tally.proofs.TestLaws.{by-bool, and-left, and-right, and-both, same-truth, not-both-ways}
+use Rattle.octets.proofs.BoolLaws.{by-bool, left-of, right-of, and-both, same-truth, not-both-ways}
 use Rattle.tally.proofs.CaseLaws.{firstIf, legal-parts, parts-legal}
 
 -- ---- a turn of the loop
@@ -129,7 +130,7 @@ order-zero (c ∷ cs) = refl
 record Fine (at last : ℕ) (runs : Bool) (cs : List RbCase) : Type 0 where
   short : at + length cs ≤ mostCases
   order : inOrder at last cs ≡ true
-  knows : allIf known cs ≡ true
+  knows : every known cs ≡ true
   single : cond runs 1 0 + countIf running cs ≤ 1
 
 record Sound (last : ℕ) (runs : Bool) (at : ℕ) (c : RbCase) : Type 0 where
@@ -141,13 +142,13 @@ record Sound (last : ℕ) (runs : Bool) (at : ℕ) (c : RbCase) : Type 0 where
 sound-is : (last : ℕ) (runs : Bool) (at : ℕ) (c : RbCase) → soundAt last runs at (c .id) (c .state) ≡ true → Sound last runs at c
 unfolding soundAt
 sound-is last runs at c e =
-    let l = and-left (ltb at mostCases && (eqb at 0 || ltb last (c .id))) (known c && not (runs && running c)) e in
-    let r = and-right (ltb at mostCases && (eqb at 0 || ltb last (c .id))) (known c && not (runs && running c)) e in
+    let l = left-of (ltb at mostCases && (eqb at 0 || ltb last (c .id))) (known c && not (runs && running c)) e in
+    let r = right-of (ltb at mostCases && (eqb at 0 || ltb last (c .id))) (known c && not (runs && running c)) e in
     record {
-      room = ltb-true at mostCases (and-left (ltb at mostCases) (eqb at 0 || ltb last (c .id)) l);
-      next = and-right (ltb at mostCases) (eqb at 0 || ltb last (c .id)) l;
-      told = and-left (known c) (not (runs && running c)) r;
-      alone = not-true (runs && running c) (and-right (known c) (not (runs && running c)) r);
+      room = ltb-true at mostCases (left-of (ltb at mostCases) (eqb at 0 || ltb last (c .id)) l);
+      next = right-of (ltb at mostCases) (eqb at 0 || ltb last (c .id)) l;
+      told = left-of (known c) (not (runs && running c)) r;
+      alone = not-true (runs && running c) (right-of (known c) (not (runs && running c)) r);
     }
 
 is-sound : (last : ℕ) (runs : Bool) (at : ℕ) (c : RbCase) → Sound last runs at c → soundAt last runs at (c .id) (c .state) ≡ true
@@ -166,7 +167,7 @@ one-more true c cs e = rw e
 one-more false c cs e = by-bool (running c) (λ t. rw t (omega arith)) (λ t. rw t)
 
 good-fine : (at last : ℕ) (runs : Bool) (cs : List RbCase) → at ≤ mostCases → goodFrom at true last runs cs ≡ true → Fine at last runs cs
-unfolding goodFrom inOrder allIf countIf
+unfolding goodFrom inOrder every countIf
 good-fine at last true [] h e = record { short = omega arith; order = refl; knows = refl; single = omega arith }
 good-fine at last false [] h e = record { short = omega arith; order = refl; knows = refl; single = omega arith }
 good-fine at last runs (c ∷ cs) h e =
@@ -176,7 +177,7 @@ good-fine at last runs (c ∷ cs) h e =
     record {
       short = omega (arith, f .short);
       order = and-both (eqb at 0 || ltb last (c .id)) (above (c .id) cs) (s .next) (sym (order-next at (c .id) cs) ∙ f .order);
-      knows = and-both (known c) (allIf known cs) (s .told) (f .knows);
+      knows = and-both (known c) (every known cs) (s .told) (f .knows);
       single = omega (arith, f .single, one-more runs c cs (s .alone));
     })
     (λ t. not-both-ways (rw t at e) (good-lost (suc at) (c .id) (runs || running c) cs))
@@ -188,20 +189,20 @@ alone-is true c cs h = by-bool (running c) (λ t. absurd (omega (arith, rw t at 
 alone-is false c cs h = refl
 
 fine-good : (at last : ℕ) (runs : Bool) (cs : List RbCase) → Fine at last runs cs → goodFrom at true last runs cs ≡ true
-unfolding goodFrom inOrder allIf
+unfolding goodFrom inOrder every
 fine-good at last runs [] f = refl
 fine-good at last runs (c ∷ cs) f =
     let alone = alone-is runs c cs (f .single) in
     let s : Sound last runs at c = record {
       room = omega (arith, f .short);
-      next = and-left (eqb at 0 || ltb last (c .id)) (above (c .id) cs) (f .order);
-      told = and-left (known c) (allIf known cs) (f .knows);
+      next = left-of (eqb at 0 || ltb last (c .id)) (above (c .id) cs) (f .order);
+      told = left-of (known c) (every known cs) (f .knows);
       alone = alone;
     } in
     rw (is-sound last runs at c s) (fine-good (suc at) (c .id) (runs || running c) cs (record {
       short = omega (arith, f .short);
-      order = order-next at (c .id) cs ∙ and-right (eqb at 0 || ltb last (c .id)) (above (c .id) cs) (f .order);
-      knows = and-right (known c) (allIf known cs) (f .knows);
+      order = order-next at (c .id) cs ∙ right-of (eqb at 0 || ltb last (c .id)) (above (c .id) cs) (f .order);
+      knows = right-of (known c) (every known cs) (f .knows);
       single = omega (arith, f .single, one-more runs c cs alone);
     }))
 

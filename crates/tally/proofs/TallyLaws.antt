@@ -10,7 +10,7 @@ use Rattle.tally.specs.declared.RbCase.{RbCase}
 use Rattle.tally.specs.Codes.{eventStart, accepted}
 use Rattle.tally.specs.Run.{countIf, someIf, hasId, running, legalCases, markFits, legalRun, number, stateAfter, changed, became, feed, report, stateOf}
 use Rattle.tally.specs.Scan.{scanned, numberOf, planOf, markOf, reportOf, atWrite}
-use Rattle.tally.proofs.TestLaws.{by-bool, and-left}
+use Rattle.octets.proofs.BoolLaws.{by-bool, left-of}
 use Rattle.tally.proofs.CaseLaws.{firstIf, first-within, change-none, change-first, ascending-once, legal-parts}
 use Rattle.tally.proofs.ScanLaws.{good-so, runs-so, found-so, runner-so, place-so, state-so, counts-so}
 use Rattle.tally.proofs.NumberLaws.{judged-same, taken, start-listed}
@@ -56,5 +56,5 @@ module _ (cs : List RbCase) (m event id : ℕ) where
   cases-so =
       by-bool (eqb (number cs m event id) 0)
       (λ t. let a = taken cs m event id t in
-      rw (number-of-so, t) (write-it (eqb event eventStart) (and-left (legalCases cs) (markFits m (someIf running cs)) (a .is-legal)) (λ s. start-listed event (someIf (hasId id) cs) s (a .is-known))))
+      rw (number-of-so, t) (write-it (eqb event eventStart) (left-of (legalCases cs) (markFits m (someIf running cs)) (a .is-legal)) (λ s. start-listed event (someIf (hasId id) cs) s (a .is-known))))
       (λ t. rw (number-of-so, t) (not-written cs (cond (eqb event eventStart) (scanned id cs .place) (scanned id cs .runner)) (stateAfter event)))

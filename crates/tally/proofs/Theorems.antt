@@ -9,11 +9,13 @@ use lib.ListN.{length, getD, length-map}
 use borrow.Author.Tests.{eqb-true, eqb-false, eq-eqb, leb-true, not-true}
 use Rattle.tally.specs.declared.RbCase.{RbCase}
 use Rattle.tally.specs.Codes.{stateNotRun, stateRunning, statePassed, stateFailed, stateBroken, eventStart, eventPass, eventFail, eventEnd, markClear, markSet, refusedEnded, refusedRun}
-use Rattle.tally.specs.Run.{countIf, allIf, known, isPassed, isFailed, isBroken, isNotRun, running, someIf, legalCases, markFits, legalRun, restated, changed, touches, stateAfter, became, markAfter, eventJudged, number, counted, report}
+use Rattle.octets.specs.Lists.{every}
+use Rattle.tally.specs.Run.{countIf, known, isPassed, isFailed, isBroken, isNotRun, running, someIf, legalCases, markFits, legalRun, restated, changed, touches, stateAfter, became, markAfter, eventJudged, number, counted, report}
 use Rattle.tally.specs.Scan.{none}
 use Rattle.tally.specs.History.{Run, Event, isLegal, accepts, fed, after, newRun, acceptedOf, names, breaks, closes, closedBy, told, asTold, toldFrom, asToldFrom, someEvent}
 use Rattle.tally.specs.Theorems.{caseAt, startEvent, classes, NewLegal, LegalStays, LegalReached, AsTold, AsToldFrom, ReportTold, OneClass, SumIsLength, NeverStarted, PassedWasStarted, RunningIsBroken, BrokenUntilVerdict, RefusedKeeps, MarkTold, AfterEnd, IdsStay}
-use Rattle.tally.proofs.TestLaws.{by-bool, and-left, and-right, not-both-ways}
+use Rattle.octets.proofs.ListLaws.{every-in}
+use Rattle.octets.proofs.BoolLaws.{by-bool, left-of, right-of, not-both-ways}
 use Rattle.tally.proofs.CaseLaws.{legal-parts, parts-legal}
 use Rattle.tally.proofs.NumberLaws.{taken}
 use Rattle.tally.proofs.HistoryLaws.{told-on, legal-on, changed-id}
@@ -57,13 +59,13 @@ new-legal cs h o = rw (parts-legal (map (restated stateNotRun) cs) (new-parts cs
 pub legal-reached : LegalReached
 unfolding legalRun markFits Reached
 legal-reached r h =
-    let ok = and-left (legalCases (r .cases)) (markFits (r .mark) (someIf running (r .cases))) h in
-    let fits = and-right (legalCases (r .cases)) (markFits (r .mark) (someIf running (r .cases))) h in
+    let ok = left-of (legalCases (r .cases)) (markFits (r .mark) (someIf running (r .cases))) h in
+    let fits = right-of (legalCases (r .cases)) (markFits (r .mark) (someIf running (r .cases))) h in
     by-bool (eqb (r .mark) markClear)
     (λ t. let q = reach-open (r .cases) ok in (q .0, q .1 ∙ ap (λ (n : ℕ). record { cases = r .cases; mark = n }) (sym (eqb-true (r .mark) markClear t))))
     (λ t. let e : eqb (r .mark) markSet && not (someIf running (r .cases)) ≡ true = rw t at fits in
-    let q = reach-end (r .cases) ok (not-true (someIf running (r .cases)) (and-right (eqb (r .mark) markSet) (not (someIf running (r .cases))) e)) in
-    (q .0, q .1 ∙ ap (λ (n : ℕ). record { cases = r .cases; mark = n }) (sym (eqb-true (r .mark) markSet (and-left (eqb (r .mark) markSet) (not (someIf running (r .cases))) e)))))
+    let q = reach-end (r .cases) ok (not-true (someIf running (r .cases)) (right-of (eqb (r .mark) markSet) (not (someIf running (r .cases))) e)) in
+    (q .0, q .1 ∙ ap (λ (n : ℕ). record { cases = r .cases; mark = n }) (sym (eqb-true (r .mark) markSet (left-of (eqb (r .mark) markSet) (not (someIf running (r .cases))) e)))))
 
 -- no event says nothing
 told-nothing : (c : RbCase) → asToldFrom [] c ≡ c
@@ -135,9 +137,9 @@ ids-stay r (e ∷ es) =
     ∙ by-bool (accepts r e) (λ t. ap (λ (l : List RbCase). map (λ c. c .id) l) (taken-cases r e t) ∙ ids-became (e .kind) (e .id) (r .cases)) (λ t. ap (λ (q : Run). map (λ c. c .id) (q .cases)) (refused-keeps r e t))
 
 -- ---- the classes
-legal-known : (r : Run) → isLegal r ≡ true → allIf known (r .cases) ≡ true
+legal-known : (r : Run) → isLegal r ≡ true → every known (r .cases) ≡ true
 unfolding legalRun
-legal-known r h = legal-parts (r .cases) (and-left (legalCases (r .cases)) (markFits (r .mark) (someIf running (r .cases))) h) .knows
+legal-known r h = legal-parts (r .cases) (left-of (legalCases (r .cases)) (markFits (r .mark) (someIf running (r .cases))) h) .knows
 
 same-length : (r : Run) (es : List Event) → isLegal r ≡ true → length (after r es .cases) ≡ length (r .cases)
 same-length r es h = ap length (as-told-from r es h) ∙ length-map (r .cases) (asToldFrom (acceptedOf r es))
@@ -159,11 +161,11 @@ none-counted : (p : RbCase → Bool) → countIf p [] ≡ 0
 unfolding countIf
 none-counted p = refl
 
-four-add : (cs : List RbCase) → allIf known cs ≡ true → countIf isPassed cs + countIf isFailed cs + countIf isBroken cs + countIf isNotRun cs ≡ length cs
-unfolding allIf
+four-add : (cs : List RbCase) → every known cs ≡ true → countIf isPassed cs + countIf isFailed cs + countIf isBroken cs + countIf isNotRun cs ≡ length cs
+unfolding every
 four-add [] h = rw (none-counted isPassed, none-counted isFailed, none-counted isBroken, none-counted isNotRun)
 four-add (c ∷ cs) h =
-    omega (arith, four-add cs (and-right (known c) (allIf known cs) h), known-class c (and-left (known c) (allIf known cs) h), counted-one isPassed c cs, counted-one isFailed c cs, counted-one isBroken c cs, counted-one isNotRun c cs)
+    omega (arith, four-add cs (right-of (known c) (every known cs) h), known-class c (left-of (known c) (every known cs) h), counted-one isPassed c cs, counted-one isFailed c cs, counted-one isBroken c cs, counted-one isNotRun c cs)
 
 report-adds : (cs : List RbCase) (m : ℕ) → legalRun cs m ≡ true → report cs m .passed + report cs m .failed + report cs m .broken + report cs m .«not_run» ≡ length cs
 unfolding report legalRun
@@ -187,15 +189,9 @@ unstarted id (e ∷ es) h = by-bool (names eventStart id e) (λ t. not-both-ways
 case-told : (r : Run) (es : List Event) (i : ℕ) → isLegal r ≡ true → i < length (r .cases) → caseAt (after r es) i ≡ asToldFrom (acceptedOf r es) (caseAt r i)
 case-told r es i h within = ap (λ (l : List RbCase). getD l i none) (as-told-from r es h) ∙ mapped-at (asToldFrom (acceptedOf r es)) (r .cases) i within
 
-all-at : (p : RbCase → Bool) (cs : List RbCase) (i : ℕ) → allIf p cs ≡ true → i < length cs → p (getD cs i none) ≡ true
-unfolding allIf
-all-at p [] i h within = absurd (omega arith)
-all-at p (c ∷ cs) zero h within = and-left (p c) (allIf p cs) h
-all-at p (c ∷ cs) (suc i) h within = all-at p cs i (and-right (p c) (allIf p cs) h) (omega arith)
-
 pub one-class : OneClass
 one-class r es i h within =
-    known-class (caseAt (after r es) i) (all-at known (after r es .cases) i (legal-known (after r es) (legal-stays r es h)) (rw (same-length r es h) within))
+    known-class (caseAt (after r es) i) (every-in known none (after r es .cases) i refl (legal-known (after r es) (legal-stays r es h)))
 
 -- of a case that was not run the events tell from its start on
 state-told : (r : Run) (es : List Event) (i : ℕ) → isLegal r ≡ true → i < length (r .cases) → isNotRun (caseAt r i) ≡ true → caseAt (after r es) i .state ≡ told (caseAt r i .id) (acceptedOf r es)

@@ -4,7 +4,8 @@ use Prim.Native.Nat.{ℕ}
 use mathlib.Core.List.{List, [], _∷_}
 use Rattle.tally.specs.declared.RbCase.{RbCase}
 use Rattle.tally.specs.Codes.{stateNotRun, stateRunning, statePassed, stateFailed, stateBroken, eventStart, eventPass, eventFail, eventCrash, eventEnd, markClear, markSet}
-use Rattle.tally.specs.Run.{countIf, someIf, allIf, above, ascending, legalCases, markFits, legalRun, unknown, notStartable, noneRunning, eventJudged, stateOf, number, stateAfter, became, markAfter, report}
+use Rattle.octets.specs.Lists.{every}
+use Rattle.tally.specs.Run.{countIf, someIf, above, ascending, legalCases, markFits, legalRun, unknown, notStartable, noneRunning, eventJudged, stateOf, number, stateAfter, became, markAfter, report}
 use Rattle.tally.specs.History.{Run, Event, after, acceptedOf}
 
 abbrev case : ℕ → ℕ → RbCase
@@ -33,16 +34,16 @@ abbrev begun : Run
 begun = record { cases = notRun 7 ∷ notRun 9 ∷ notRun 11 ∷ []; mark = markClear }
 
 played-run : after begun played ≡ record { cases = case 7 statePassed ∷ case 9 stateBroken ∷ notRun 11 ∷ []; mark = markSet }
-unfolding after countIf someIf allIf above ascending legalCases markFits legalRun unknown notStartable noneRunning eventJudged stateOf number stateAfter became markAfter
+unfolding after countIf someIf every above ascending legalCases markFits legalRun unknown notStartable noneRunning eventJudged stateOf number stateAfter became markAfter
 played-run = refl
 
 played-accepted : acceptedOf begun played ≡ start 7 ∷ pass 7 ∷ start 9 ∷ endOf ∷ []
-unfolding acceptedOf countIf someIf allIf above ascending legalCases markFits legalRun unknown notStartable noneRunning eventJudged stateOf number stateAfter became markAfter
+unfolding acceptedOf countIf someIf every above ascending legalCases markFits legalRun unknown notStartable noneRunning eventJudged stateOf number stateAfter became markAfter
 played-accepted = refl
 
 -- a running case counts as broken
 running-broken : report (case 7 stateFailed ∷ case 9 stateRunning ∷ notRun 11 ∷ []) markClear ≡ record { number = 0; passed = 0; failed = 1; broken = 1; «not_run» = 1 }
-unfolding report countIf someIf allIf above ascending legalCases markFits legalRun
+unfolding report countIf someIf every above ascending legalCases markFits legalRun
 running-broken = refl
 
 -- 15: two running; one running with the mark set; ids that are equal; a state that is not known; a mark that is neither clear nor set. An empty list is legal
@@ -58,9 +59,9 @@ events =
     ∷ number (case 7 statePassed ∷ []) markClear eventCrash 7 ∷ number (case 7 statePassed ∷ []) markSet 6 7 ∷ []
 
 lists-judged : lists ≡ 15 ∷ 15 ∷ 15 ∷ 15 ∷ 15 ∷ 0 ∷ []
-unfolding countIf someIf allIf above ascending legalCases markFits legalRun unknown notStartable noneRunning eventJudged stateOf number
+unfolding countIf someIf every above ascending legalCases markFits legalRun unknown notStartable noneRunning eventJudged stateOf number
 lists-judged = refl
 
 events-judged : events ≡ 11 ∷ 11 ∷ 12 ∷ 13 ∷ 14 ∷ []
-unfolding countIf someIf allIf above ascending legalCases markFits legalRun unknown notStartable noneRunning eventJudged stateOf number
+unfolding countIf someIf every above ascending legalCases markFits legalRun unknown notStartable noneRunning eventJudged stateOf number
 events-judged = refl

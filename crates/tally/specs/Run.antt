@@ -4,6 +4,7 @@ use mathlib.Core.Bool.{Bool, true, false, cond, not, _&&_, _||_}
 use mathlib.Core.List.{List, [], _∷_, map}
 use lib.Dec.{eqb, leb, ltb}
 use lib.ListN.{length}
+use Rattle.octets.specs.Lists.{every}
 use Rattle.tally.specs.declared.RbCase.{RbCase}
 use Rattle.tally.specs.declared.judge.RbReport.{RbReport}
 use Rattle.tally.specs.Codes.{mostCases, stateNotRun, stateRunning, statePassed, stateFailed, stateBroken, eventStart, eventPass, eventFail, eventCrash, eventEnd, markClear, markSet, accepted, refusedUnknown, refusedStart, refusedVerdict, refusedEnded, refusedRun}
@@ -16,10 +17,6 @@ countIf p (c ∷ cs) = cond (p c) (suc (countIf p cs)) (countIf p cs)
 unfoldable pub someIf : (RbCase → Bool) → List RbCase → Bool
 someIf p [] = false
 someIf p (c ∷ cs) = p c || someIf p cs
-
-unfoldable pub allIf : (RbCase → Bool) → List RbCase → Bool
-allIf p [] = true
-allIf p (c ∷ cs) = p c && allIf p cs
 
 -- ---- a case
 abbrev pub hasId : ℕ → RbCase → Bool
@@ -57,7 +54,7 @@ ascending (c ∷ cs) = above (c .id) cs
 
 -- "up to 65,535"; "one case runs at a time"
 unfoldable pub legalCases : List RbCase → Bool
-legalCases cs = (leb (length cs) mostCases && ascending cs) && (allIf known cs && leb (countIf running cs) 1)
+legalCases cs = (leb (length cs) mostCases && ascending cs) && (every known cs && leb (countIf running cs) 1)
 
 -- the mark is clear, or it is set and none runs, since end closes the running case
 unfoldable pub markFits : ℕ → Bool → Bool

@@ -19,10 +19,10 @@ use Rattle.message.specs.Form.{contentLength}
 use Rattle.message.specs.Request.{noBinding}
 use Rattle.message.specs.declared.request.Binding.{Binding}
 use Rattle.names.specs.Places.{isTimer, vlanName, vlanRowStatus, staticAllowed, staticState, pairBridgeNum, pairBridgeState}
-use Rattle.answer.specs.Writes.{status, field}
+use Rattle.answer.specs.Writes.{status, attribute}
 use Rattle.block.specs.declared.tables.Table.{Table}
 use Rattle.block.specs.declared.tables.Table.the-variants.{Vlan as vlan, Static as static, Pair as pair}
-use Rattle.answer.specs.Tables.{create, state, destroy, name, egress, forbidden, untagged, keep, drop, allowed, paired, unpaired, bridgeNumber, Status, Field, ColumnOf, vlanPorts, makes, removes}
+use Rattle.answer.specs.Tables.{create, state, destroy, name, egress, forbidden, untagged, keep, drop, allowed, paired, unpaired, bridgeNumber, Status, Attribute, ColumnOf, vlanPorts, makes, removes}
 use Rattle.answer.specs.Judge.{cell, row, Write, ContentSaid, wrong, right, Judged, bad, clean, among, judged}
 use Rattle.answer.specs.Respond.{askedAt}
 use Rattle.answer.specs.Set.{isFull}
@@ -60,13 +60,13 @@ statusMeant static x = cond (eqb x 2) drop (keep x)
 statusMeant pair x = cond (eqb x 3) unpaired (paired x)
 
 -- what the column at place i writes: v is the number or the port set of its content, xs are the content's octets
-abbrev pub fieldSaid : (t : Table) → (i v : ℕ) → List ℕ → Field t
-fieldSaid vlan i v xs = cond (eqb i vlanName) (name xs) (vlanPorts i v)
-fieldSaid static i v xs = allowed v
-fieldSaid pair i v xs = bridgeNumber v
+abbrev pub attributeSaid : (t : Table) → (i v : ℕ) → List ℕ → Attribute t
+attributeSaid vlan i v xs = cond (eqb i vlanName) (name xs) (vlanPorts i v)
+attributeSaid static i v xs = allowed v
+attributeSaid pair i v xs = bridgeNumber v
 
 abbrev pub columnAt : (t : Table) → (i v : ℕ) → List ℕ → ColumnOf t
-columnAt t i v xs = cond (eqb i (statusPlace t)) (status (statusMeant t v)) (field (fieldSaid t i v xs))
+columnAt t i v xs = cond (eqb i (statusPlace t)) (status (statusMeant t v)) (attribute (attributeSaid t i v xs))
 
 -- what the object at place i writes at the key k
 abbrev pub writtenTo : Holder → (i k v : ℕ) → List ℕ → Write
@@ -148,14 +148,14 @@ pub record AllStand (s : List ℕ) (bs : List Binding) (count : ℕ) : Type 0 wh
 abbrev pub isStatusOf : Table → Kept → Bool
 isStatusOf t q = eqb (q .fault) 0 && eqb (q .place) (statusPlace t)
 
-abbrev pub isFieldOf : Table → Kept → Bool
-isFieldOf t q = eqb (q .fault) 0 && (isColumn t (q .place) && not (eqb (q .place) (statusPlace t)))
+abbrev pub isAttributeOf : Table → Kept → Bool
+isAttributeOf t q = eqb (q .fault) 0 && (isColumn t (q .place) && not (eqb (q .place) (statusPlace t)))
 
 -- what a kept binding does to the row that it names in a table: its status makes the row, or removes it, or it writes another column
 abbrev pub does : Act → Table → Kept → Bool
 does Makes t q = isStatusOf t q && makes t (statusMeant t (q .value))
 does Removes t q = isStatusOf t q && removes t (statusMeant t (q .value))
-does Fills t q = isFieldOf t q
+does Fills t q = isAttributeOf t q
 
 -- is there a kept binding that does so to the row k of a table
 unfoldable pub isDone : Act → Table → (k : ℕ) → List Kept → Bool
@@ -195,16 +195,16 @@ abbrev pub ColumnFits : (t : Table) → ColumnOf t → Type 0
 ColumnFits vlan (status (create x)) = x < 256
 ColumnFits vlan (status (state x)) = x < 256
 ColumnFits vlan (status destroy) = Unit {0}
-ColumnFits vlan (field (name xs)) = length xs ≤ 32
-ColumnFits vlan (field (egress x)) = x < 2 ^ 64
-ColumnFits vlan (field (forbidden x)) = x < 2 ^ 64
-ColumnFits vlan (field (untagged x)) = x < 2 ^ 64
+ColumnFits vlan (attribute (name xs)) = length xs ≤ 32
+ColumnFits vlan (attribute (egress x)) = x < 2 ^ 64
+ColumnFits vlan (attribute (forbidden x)) = x < 2 ^ 64
+ColumnFits vlan (attribute (untagged x)) = x < 2 ^ 64
 ColumnFits static (status (keep x)) = x < 256
 ColumnFits static (status drop) = Unit {0}
-ColumnFits static (field (allowed x)) = x < 2 ^ 64
+ColumnFits static (attribute (allowed x)) = x < 2 ^ 64
 ColumnFits pair (status (paired x)) = x < 256
 ColumnFits pair (status unpaired) = Unit {0}
-ColumnFits pair (field (bridgeNumber x)) = x < 256
+ColumnFits pair (attribute (bridgeNumber x)) = x < 256
 
 -- a cell is a timer's where its object is that timer
 abbrev pub OwnCell : (i k : ℕ) → Type 0

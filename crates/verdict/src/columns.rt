@@ -3,7 +3,7 @@ ghost use mathlib.Core.Path.{_≡_};
 ghost use mathlib.Core.Bool.{_||_};
 ghost use lib.Dec.{eqb};
 ghost use Rattle.answer.specs.Tables.{makes, removes, misplaced};
-ghost use Rattle.verdict.specs.Kept.{firstWritten, statusPlace, isColumn, columnIn, statusMeant, isStatusOf, isFieldOf};
+ghost use Rattle.verdict.specs.Kept.{firstWritten, statusPlace, isColumn, columnIn, statusMeant, isStatusOf, isAttributeOf};
 use super::judge::Kept;
 use block::tables::Table;
 use names::places::PAIR_BRIDGE_NUM;
@@ -72,8 +72,8 @@ pub fn is_status_of(t: Table, q: Kept) -> bool
 }
 
 // Whether it writes another column of the table.
-pub fn is_field_of(t: Table, q: Kept) -> bool
-    ensures { λ r. ⌜ r ≡ isFieldOf t q ⌝ }
+pub fn is_attribute_of(t: Table, q: Kept) -> bool
+    ensures { λ r. ⌜ r ≡ isAttributeOf t q ⌝ }
 {
     let place = q.place as usize;
     (q.fault == 0) & (is_column(t, place) & (place != status_place(t)))

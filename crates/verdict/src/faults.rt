@@ -18,12 +18,12 @@ ghost use Rattle.answer.specs.Writes.{isStatus, those, playRow};
 ghost use Rattle.block.specs.Tables.{rowsOf};
 ghost use Rattle.block.specs.declared.tables.Table.the-variants.{Vlan as vlan};
 ghost use Rattle.answer.specs.Tables.{statusStep, step, lacking, clash};
-ghost use Rattle.answer.specs.Set.{writesTo, fieldFault, statusFault, resulting, rowFault, isFull, resultingCells, cellFault, fault, verdict};
+ghost use Rattle.answer.specs.Set.{writesTo, attributeFault, statusFault, resulting, rowFault, isFull, resultingCells, cellFault, fault, verdict};
 ghost use Rattle.verdict.specs.Kept.{isColumn, statusMeant, columnAt, meant, meantBy, does, isDone, fullIn, fullOf, setsOf, TimersFit};
 ghost use Rattle.verdict.specs.declared.faults.Act.the-variants.{Fills};
 use super::columns::Holder;
 use super::columns::column_in;
-use super::columns::is_field_of;
+use super::columns::is_attribute_of;
 use super::columns::is_misplaced;
 use super::columns::is_status_of;
 use super::columns::makes_row;
@@ -40,7 +40,7 @@ use block::tables::Table;
 use block::tables::find_row;
 use block::tables::row_count;
 use block::tables::standing_of;
-use get::instances::has_row;
+use instances::has_row;
 use legality::belong_together;
 use names::places::BRIDGE_FORWARD_DELAY;
 use names::places::BRIDGE_HELLO_TIME;
@@ -84,7 +84,7 @@ fn does_to(act: Act, t: Table, q: Kept) -> bool
     match act {
         Act::Makes => is_status_of(t, q) & makes_row(t, q.value),
         Act::Removes => is_status_of(t, q) & removes_row(t, q.value),
-        Act::Fills => is_field_of(t, q),
+        Act::Fills => is_attribute_of(t, q),
     }
 }
 
@@ -188,7 +188,7 @@ fn after_statuses(sets: Sets, kept: [Kept; 16], count: usize, key: u64) -> Sets
 }
 
 // After the other columns of a message.
-fn after_fields(sets: Sets, kept: [Kept; 16], count: usize, key: u64) -> Sets
+fn after_attributes(sets: Sets, kept: [Kept; 16], count: usize, key: u64) -> Sets
     requires { ⌜ count ≤ 16 ⌝ }
     ensures { λ r. ⌜ ((m : Model) (s : List ℕ) (o : Option VlanRow) → sets ≡ setsOf o → r ≡ setsOf (playRow (step m vlan) key (those (λ c. not (isStatus c)) (writesTo vlan (meantBy s kept count))) o)) ⌝ }
 {
@@ -220,12 +220,12 @@ fn shares_port(block: &[u8], kept: [Kept; 16], count: usize, key: u64) -> bool
 {
     let before = sets_before(block, key);
     let made = after_statuses(before, kept, count, key);
-    let sets = after_fields(made, kept, count, key);
+    let sets = after_attributes(made, kept, count, key);
     sets.there & !are_disjoint(sets.egress, sets.forbidden)
 }
 
-fn field_fault(there: bool, made: bool, removed: bool, clash: bool) -> u8
-    ensures { λ r. ⌜ r ≡ fieldFault there made removed clash ⌝ }
+fn attribute_fault(there: bool, made: bool, removed: bool, clash: bool) -> u8
+    ensures { λ r. ⌜ r ≡ attributeFault there made removed clash ⌝ }
 {
     if there | made {
         if (there & removed) | clash {
@@ -282,9 +282,9 @@ fn row_fault(block: &[u8], t: Table, kept: [Kept; 16], count: usize, full: bool,
     let made = is_done(kept, count, Act::Makes, t, key);
     let removed = is_done(kept, count, Act::Removes, t, key);
     if (place == VLAN_EGRESS) | (place == VLAN_FORBIDDEN) {
-        return field_fault(there, made, removed, shares_port(block, kept, count, key));
+        return attribute_fault(there, made, removed, shares_port(block, kept, count, key));
     }
-    field_fault(there, made, removed, false)
+    attribute_fault(there, made, removed, false)
 }
 
 // The timer at a place after the clean kept bindings: the number of the kept binding that writes it, or the block's.

@@ -8,14 +8,12 @@ ghost use Rattle.names.specs.Order.{below};
 ghost use Rattle.walks.specs.Walk.{walkOf, walkJudged};
 use identifiers::order::relate;
 use message::form::Refusal;
+use message::kinds::SET;
 use message::request::BindingRead;
 use message::request::binding_at;
 use names::order::Relation;
 
 pub const NOT_ASCENDING: u8 = 24;
-
-// A walk's contents are those of a set.
-pub const SET: u8 = 3;
 
 // Whether a walk can be read, and else its first refusal.
 pub enum WalkJudged {
@@ -45,6 +43,7 @@ pub fn judge(s: &[u8]) -> WalkJudged
     let mut name: usize = 0;
     let mut size: usize = 0;
     while at < s.len() {
+        // A walk's contents are those of a set.
         match binding_at(SET, s, at) {
             BindingRead::Refused(r) => {
                 return WalkJudged::Refused(r);

@@ -4,7 +4,7 @@ use native.Mathlib.Omega.{arith}
 use lib.ListN.{length}
 use Rattle.block.specs.Image.{contentOf}
 use Rattle.block.specs.declared.tables.Table.the-variants.{Pair as pair}
-use Rattle.block.proofs.ReadLaws.{many-pairs}
+use Rattle.block.proofs.ReadLaws.{many-in}
 use Rattle.block.proofs.ChangeLaws.{image-rows, image-pair-in}
 use borrow.Author.Needs.{needs}
 use Rattle.changes.proofs.insert_pair.Statement.{statement}
@@ -12,7 +12,7 @@ use Rattle.changes.proofs.insert_pair.Tie as tie
 
 open-row-requires : tie.Need-open-row-requires
 open-row-requires c κs =
-    let n = many-pairs (c .before .before .args .block .now) in
+    let n = many-in (c .before .before .args .block .now) pair in
     record { counted = omega arith; fits = omega arith; inside = omega arith }
 
 mul-put-pair-row : tie.Need-mul-put-pair-row

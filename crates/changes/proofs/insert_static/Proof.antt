@@ -3,7 +3,8 @@ use mathlib.Core.Path.{_≡_}
 use native.Mathlib.Omega.{arith}
 use lib.ListN.{length}
 use Rattle.block.specs.Image.{contentOf}
-use Rattle.block.proofs.ReadLaws.{many-statics}
+use Rattle.block.specs.declared.tables.Table.the-variants.{Static as static}
+use Rattle.block.proofs.ReadLaws.{many-in}
 use Rattle.block.proofs.ChangeLaws.{image-statics, image-static-in}
 use borrow.Author.Needs.{needs}
 use Rattle.changes.proofs.insert_static.Statement.{statement}
@@ -11,7 +12,7 @@ use Rattle.changes.proofs.insert_static.Tie as tie
 
 open-row-requires : tie.Need-open-row-requires
 open-row-requires c κs =
-    let n = many-statics (c .before .before .args .block .now) in
+    let n = many-in (c .before .before .args .block .now) static in
     record { counted = omega arith; fits = omega arith; inside = omega arith }
 
 mul-put-static-row : tie.Need-mul-put-static-row

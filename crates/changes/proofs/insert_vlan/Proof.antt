@@ -4,7 +4,7 @@ use native.Mathlib.Omega.{arith}
 use lib.ListN.{length}
 use Rattle.block.specs.Image.{contentOf}
 use Rattle.block.specs.declared.tables.Table.the-variants.{Vlan as vlan}
-use Rattle.block.proofs.ReadLaws.{many-vlans}
+use Rattle.block.proofs.ReadLaws.{many-in}
 use Rattle.block.proofs.ChangeLaws.{image-rows, image-vlan-in}
 use borrow.Author.Needs.{needs}
 use Rattle.changes.proofs.insert_vlan.Statement.{statement}
@@ -12,7 +12,7 @@ use Rattle.changes.proofs.insert_vlan.Tie as tie
 
 open-row-requires : tie.Need-open-row-requires
 open-row-requires c κs =
-    let n = many-vlans (c .before .before .args .block .now) in
+    let n = many-in (c .before .before .args .block .now) vlan in
     record { counted = omega arith; fits = omega arith; inside = omega arith }
 
 mul-put-vlan-row : tie.Need-mul-put-vlan-row

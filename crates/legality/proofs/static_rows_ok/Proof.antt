@@ -13,7 +13,7 @@ use Rattle.block.specs.Image.{contentOf}
 use Rattle.block.specs.Valid.{every, staticOk}
 use Rattle.block.specs.Tests.{rowOk}
 use Rattle.block.specs.Lookup.{noStatic}
-use Rattle.block.proofs.ReadLaws.{many-statics}
+use Rattle.block.proofs.ReadLaws.{many-in}
 use Rattle.block.specs.declared.tables.Table.the-variants.{Static as static}
 use Rattle.block.proofs.StandingLaws.{key-at, key-small}
 use Rattle.legality.proofs.LegalLaws.{static-can}
@@ -39,16 +39,16 @@ loop-holds : tie.Need-loop-holds Inv-loop μ-loop
 loop-holds c = (omega arith, refl)
 
 mul-port : tie.Need-mul-port Inv-loop μ-loop
-mul-port c = omega (arith, many-statics (c .before .before .before .before .args .block .now))
+mul-port c = omega (arith, many-in (c .before .before .before .before .args .block .now) static)
 
 add-port : tie.Need-add-port Inv-loop μ-loop
-add-port c = omega (arith, many-statics (c .before .before .before .before .args .block .now))
+add-port c = omega (arith, many-in (c .before .before .before .before .args .block .now) static)
 
 add-port-2 : tie.Need-add-port-2 Inv-loop μ-loop
-add-port-2 c = omega (arith, many-statics (c .before .before .before .before .args .block .now))
+add-port-2 c = omega (arith, many-in (c .before .before .before .before .args .block .now) static)
 
 shared-slice-read-port : tie.Need-shared-slice-read-port Inv-loop μ-loop
-shared-slice-read-port c = omega (arith, many-statics (c .before .before .before .before .before .args .block .now))
+shared-slice-read-port c = omega (arith, many-in (c .before .before .before .before .before .args .block .now) static)
 
 cast-fits : tie.Need-cast-fits Inv-loop μ-loop
 cast-fits c = omega (arith, c .shared-slice-known2 .given (21556 + c .before .before .loop .i * 16 + 6))
@@ -72,7 +72,7 @@ turn c =
     let a = start c .args in
     let b = a .block .now in
     let i = c .before .before .before .before .before .loop .i in
-    let there : i < beAt b 12 4 = omega (arith, many-statics b) in
+    let there : i < beAt b 12 4 = omega (arith, many-in b static) in
     let octets : Octets b = λ j. omega (arith, c .before .before .before .before .before .before .before .shared-slice-known .given j) in
     let small = subst (λ k. k < 256 ^ 7) (key-at (contentOf b .statics) i (noStatic .1)) (key-small b static i octets (omega arith)) in
     c .before .before .before .before .before .loop .inv .1

@@ -11,7 +11,8 @@ use Rattle.block.specs.Image.{contentOf}
 use Rattle.block.specs.Tests.{staticStatus, ascends}
 use Rattle.block.specs.Lookup.{noStatic}
 use Rattle.block.specs.declared.rows.StaticRow.{StaticRow}
-use Rattle.block.proofs.ReadLaws.{many-statics}
+use Rattle.block.specs.declared.tables.Table.the-variants.{Static as static}
+use Rattle.block.proofs.ReadLaws.{many-in}
 use Rattle.legality.proofs.AscendLaws.{ascends-turn, ascends-end, each-at, word-is, keyBehind, Word, word-first, word-next, behind-next, word-below, word-above}
 use borrow.Author.Needs.{needs}
 use Rattle.legality.proofs.statics_ascend.Statement.{statement}
@@ -31,13 +32,13 @@ loop-holds : tie.Need-loop-holds Inv-loop μ-loop
 loop-holds c = (omega arith, omega arith, word-first, refl)
 
 mul-be8 : tie.Need-mul-be8 Inv-loop μ-loop
-mul-be8 c = omega (arith, many-statics (c .before .before .before .before .args .block .now))
+mul-be8 c = omega (arith, many-in (c .before .before .before .before .args .block .now) static)
 
 add-be8 : tie.Need-add-be8 Inv-loop μ-loop
-add-be8 c = omega (arith, many-statics (c .before .before .before .before .args .block .now))
+add-be8 c = omega (arith, many-in (c .before .before .before .before .args .block .now) static)
 
 be8-requires : tie.Need-be8-requires Inv-loop μ-loop
-be8-requires c κs = omega (arith, many-statics (c .before .before .before .before .args .block .now))
+be8-requires c κs = omega (arith, many-in (c .before .before .before .before .args .block .now) static)
 
 add-if1 : tie.Need-add-if1 Inv-loop μ-loop
 add-if1 c = omega (arith, c .before .before .loop .inv .1, c .before .before .loop .inv .2 .last)
@@ -52,7 +53,7 @@ row c = getD (contentOf (start c .args .block .now) .statics) (c .before .before
 word : (c : tie.After-be8 Inv-loop μ-loop) → c .be8 .result ≡ row c .0 * 256 + row c .1 .status
 word c =
     let b = start c .args .block .now in
-    c .be8 .ensures ∙ word-is b (c .before .before .loop .i) noStatic (omega (arith, many-statics b))
+    c .be8 .ensures ∙ word-is b (c .before .before .loop .i) noStatic (omega (arith, many-in b static))
 
 status : (c : tie.After-be8 Inv-loop μ-loop) → (3 ≤ row c .1 .status) × (row c .1 .status ≤ 5)
 status c =

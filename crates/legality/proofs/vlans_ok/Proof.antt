@@ -15,7 +15,7 @@ use Rattle.block.specs.Tests.{vlansOk}
 use Rattle.block.specs.Lookup.{activeVlans, noVlan}
 use Rattle.block.specs.declared.tables.Table.the-variants.{Vlan as vlan}
 use Rattle.block.proofs.TotalLaws.{one-at-most}
-use Rattle.block.proofs.ReadLaws.{many-vlans, row-is, active-turn}
+use Rattle.block.proofs.ReadLaws.{row-is, active-turn, many-in}
 use Rattle.block.proofs.StandingLaws.{key-at, key-small}
 use Rattle.legality.proofs.LegalLaws.{rows-turn, rows-end}
 use borrow.Author.Needs.{needs}
@@ -49,13 +49,13 @@ small c =
     rw (c .row-key .ensures) (key-small b vlan (c .before .before .loop .i) (λ j. omega (arith, d .shared-slice-known .given j)) (omega arith))
 
 mul-vlan-ok : tie.Need-mul-vlan-ok Inv-loop μ-loop
-mul-vlan-ok c = omega (arith, many-vlans (c .before .before .before .before .before .args .block .now))
+mul-vlan-ok c = omega (arith, many-in (c .before .before .before .before .before .args .block .now) vlan)
 
 add-vlan-ok : tie.Need-add-vlan-ok Inv-loop μ-loop
-add-vlan-ok c = omega (arith, many-vlans (c .before .before .before .before .before .args .block .now))
+add-vlan-ok c = omega (arith, many-in (c .before .before .before .before .before .args .block .now) vlan)
 
 vlan-ok-requires : tie.Need-vlan-ok-requires Inv-loop μ-loop
-vlan-ok-requires c κs = omega (arith, many-vlans (c .before .before .before .before .before .args .block .now))
+vlan-ok-requires c κs = omega (arith, many-in (c .before .before .before .before .before .args .block .now) vlan)
 
 -- whether the row is as it must be
 abbrev fits : tie.After-vlan-ok Inv-loop μ-loop → Bool
@@ -76,7 +76,7 @@ turn c =
       ← key-at es (l .i) (noVlan .1),
       ← c .before .row-key .ensures,
       can-vlan,
-      row-is (a .block .now) vlan (l .i) noVlan (omega (arith, many-vlans (a .block .now))),
+      row-is (a .block .now) vlan (l .i) noVlan (omega (arith, many-in (a .block .now) vlan)),
       ← c .vlan-ok .ensures,
     )
 
@@ -85,13 +85,13 @@ unfolding vlansOk
 returns c = rw (turn (c .before), not-true (fits (c .before)) (c .if1 .taken))
 
 vlan-status-requires : tie.Need-vlan-status-requires Inv-loop μ-loop
-vlan-status-requires c κs = omega (arith, many-vlans (c .before .before .before .before .before .before .before .args .block .now))
+vlan-status-requires c κs = omega (arith, many-in (c .before .before .before .before .before .before .before .args .block .now) vlan)
 
 one-if-active-requires : tie.Need-one-if-active-requires Inv-loop μ-loop
 one-if-active-requires c κs = search needs
 
 add-active : tie.Need-add-active Inv-loop μ-loop
-add-active c = omega (arith, one-at-most (c .before .vlan-status .result), many-vlans (c .before .before .before .before .before .before .before .before .before .args .block .now))
+add-active c = omega (arith, one-at-most (c .before .vlan-status .result), many-in (c .before .before .before .before .before .before .before .before .before .args .block .now) vlan)
 
 add-low : tie.Need-add-low Inv-loop μ-loop
 add-low c = omega (arith, small (c .before .before .before .before))
@@ -106,7 +106,7 @@ loop-again : tie.Need-loop-again Inv-loop μ-loop
 loop-again c =
     let l = c .before .before .before .before .before .before .loop in
     let b = c .before .before .before .before .before .before .before .before .before .args .block .now in
-    let i : l .i < beAt b 8 4 = omega (arith, many-vlans b) in (
+    let i : l .i < beAt b 8 4 = omega (arith, many-in b vlan) in (
       omega arith,
       omega (arith, one-at-most (c .before .vlan-status .result)),
       l .inv .2 ∙ rw (active-turn b (l .i) i, ← c .before .vlan-status .ensures, ← c .one-if-active .ensures) (omega arith),

@@ -21,8 +21,8 @@ use Rattle.block.specs.declared.tables.Table.{Table}
 use Rattle.block.specs.declared.tables.Table.the-variants.{Vlan as vlan, Static as static, Pair as pair}
 use Rattle.answer.specs.Tables.{ColumnOf, makes, removes, misplaced, lacking, clash, clashes}
 use Rattle.answer.specs.Judge.{Judged}
-use Rattle.answer.specs.Set.{writesTo, fieldFault, statusFault, resulting, rowFault, isFull, fault, firstFault}
-use Rattle.verdict.specs.Kept.{statusPlace, isColumn, statusMeant, fieldSaid, columnAt, meant, fullIn, fullOf}
+use Rattle.answer.specs.Set.{writesTo, attributeFault, statusFault, resulting, rowFault, isFull, fault, firstFault}
+use Rattle.verdict.specs.Kept.{statusPlace, isColumn, statusMeant, attributeSaid, columnAt, meant, fullIn, fullOf}
 use Rattle.verdict.specs.declared.judge.Kept.{Kept}
 use Rattle.verdict.proofs.PastEnd.{pastEnd}
 use Rattle.verdict.proofs.columns.ColumnLaws.{column-high}
@@ -34,14 +34,14 @@ module _ (m : Model) (t : Table) (f : Bool) (ws : List (ℕ × ColumnOf t)) (k i
   unfolding rowFault
   status-fault p = rw (p, eq-eqb (statusPlace t) (statusPlace t) refl)
 
-  pub field-fault : (i ≡ statusPlace t → ⊥) → rowFault m t f ws k (columnAt t i v xs) o
-      ≡ fieldFault (present o) (has (onStatus (makes t)) k ws) (has (onStatus (removes t)) k ws) (clashes t (fieldSaid t i v xs) (resulting m t ws k o))
+  pub attribute-fault : (i ≡ statusPlace t → ⊥) → rowFault m t f ws k (columnAt t i v xs) o
+      ≡ attributeFault (present o) (has (onStatus (makes t)) k ws) (has (onStatus (removes t)) k ws) (clashes t (attributeSaid t i v xs) (resulting m t ws k o))
   unfolding rowFault
-  field-fault p = rw (ne-eqb i (statusPlace t) p)
+  attribute-fault p = rw (ne-eqb i (statusPlace t) p)
 
 -- only Egress and Forbidden ask about the resulting row
 pub clash-at : (t : Table) (d : Model) (c : Content) (m : List Judged) (k i v : ℕ) (xs : List ℕ) → isColumn t i ≡ true
-    → clashes t (fieldSaid t i v xs) (resulting d t (writesTo t m) k (lookup k (rowsOf t c)))
+    → clashes t (attributeSaid t i v xs) (resulting d t (writesTo t m) k (lookup k (rowsOf t c)))
     ≡ ((eqb i vlanEgress || eqb i vlanForbidden) && clash (resulting d vlan (writesTo vlan m) k (lookup k (c .vlans))))
 clash-at vlan d c m k i v xs h =
     by-bool (eqb i vlanName) (λ e. rw (eqb-true i vlanName e))

@@ -14,7 +14,7 @@ use Rattle.octets.proofs.ListLaws.{left-turn, left-none}
 use Rattle.names.specs.declared.model.Model.{Model}
 use Rattle.block.specs.declared.rows.VlanRow.{VlanRow}
 use Rattle.names.specs.Places.{vlanName, vlanEgress, vlanForbidden, vlanUntagged, vlanRowStatus}
-use Rattle.answer.specs.Writes.{status, field, isStatus, those, ordered, playRow}
+use Rattle.answer.specs.Writes.{status, attribute, isStatus, those, ordered, playRow}
 use Rattle.block.specs.declared.tables.Table.the-variants.{Vlan as vlan}
 use Rattle.answer.specs.Tables.{ColumnOf, statusStep, step, makes, removes, clash}
 use Rattle.answer.specs.Set.{rowWrite, also, gather, writesTo, resulting}
@@ -69,8 +69,8 @@ status-sets m k v none = by-row-status v (λ i. rw i) (λ i. rw i) (λ i. rw i) 
 status-sets m k v (some r) = by-row-status v (λ i. rw i) (λ i. rw i) (λ i. rw i) (λ i. rw i) (λ n. rw (n .0, n .1, n .2, n .3))
 
 -- Egress and Forbidden after a kept binding of another column
-abbrev pub withField : ℕ → Kept → Sets → Sets
-withField k q x =
+abbrev pub withAttribute : ℕ → Kept → Sets → Sets
+withAttribute k q x =
     record {
       there = x .there;
       egress = cond ((eqb (q .fault) 0 && (x .there && eqb k (q .key))) && eqb (q .place) vlanEgress) (q .value) (x .egress);
@@ -78,18 +78,18 @@ withField k q x =
     }
 
 -- an absent row stays absent
-field-absent : (m : Model) (k : ℕ) (w : Option (ℕ × ColumnOf vlan)) → rowAfter m (λ c. not (isStatus c)) k w none ≡ none
-field-absent m k none = refl
-field-absent m k (some w) = go (w .1)
+attribute-absent : (m : Model) (k : ℕ) (w : Option (ℕ × ColumnOf vlan)) → rowAfter m (λ c. not (isStatus c)) k w none ≡ none
+attribute-absent m k none = refl
+attribute-absent m k (some w) = go (w .1)
   where
     go : (c : ColumnOf vlan) → rowAfter m (λ c. not (isStatus c)) k (some (w .0, c)) none ≡ none
     go (status x) = refl
-    go (field f) = by-bool (eqb k (w .0)) (λ e. rw e) (λ e. rw e)
+    go (attribute f) = by-bool (eqb k (w .0)) (λ e. rw e) (λ e. rw e)
 
-pub field-row : (m : Model) (s : List ℕ) (k : ℕ) (q : Kept) (o : Option VlanRow)
-    → setsOf (rowAfter m (λ c. not (isStatus c)) k (rowWrite vlan (meant s q)) o) ≡ withField k q (setsOf o)
-field-row m s k q none = rw (field-absent m k (rowWrite vlan (meant s q))) (by-bool (eqb (q .fault) 0) (λ e. rw e) (λ e. rw e))
-field-row m s k q (some r) =
+pub attribute-row : (m : Model) (s : List ℕ) (k : ℕ) (q : Kept) (o : Option VlanRow)
+    → setsOf (rowAfter m (λ c. not (isStatus c)) k (rowWrite vlan (meant s q)) o) ≡ withAttribute k q (setsOf o)
+attribute-row m s k q none = rw (attribute-absent m k (rowWrite vlan (meant s q))) (by-bool (eqb (q .fault) 0) (λ e. rw e) (λ e. rw e))
+attribute-row m s k q (some r) =
     rw (write-of vlan s q)
     (by-bool (eqb (q .fault) 0)
     (λ e. rw e

@@ -15,12 +15,13 @@ use Rattle.block.specs.Content.{Content}
 use Rattle.block.specs.Image.{contentOf}
 use Rattle.block.specs.Lookup.{lookup, keysOf}
 use Rattle.block.specs.Valid.{legal}
-use Rattle.block.proofs.StandingLaws.{stands, many-rows, few-rows}
+use Rattle.block.proofs.StandingLaws.{stands, few-rows}
 use Rattle.block.proofs.RoundLaws.{legal-sized}
 use Rattle.answer.specs.Get.{elem}
 use Rattle.answer.specs.Writes.{status, isStatus, onStatus, present, those, has, count, madeBy, removedBy, full}
 use Rattle.block.specs.Tables.{Row, rowsOf, most}
 use Rattle.block.specs.declared.tables.Table.{Table}
+use Rattle.block.proofs.ReadLaws.{many-in}
 use Rattle.answer.specs.Tables.{ColumnOf, makes, removes}
 use Rattle.answer.specs.Set.{rowWrite, also, gather, writesTo, isFull}
 use Rattle.verdict.specs.Kept.{statusPlace, isColumn, statusMeant, columnAt, meant, isStatusOf, does, isDone, made, removed}
@@ -129,7 +130,7 @@ module _ (t : Table) (s : List ℕ) where
 
 -- a table of a legal block has at most 256 rows, and room for no more
 pub rows-few : (b : List ℕ) → legal b ≡ true → (t : Table) → (length (rowsOf t (contentOf b)) ≤ 256) × (most t ≤ 256)
-rows-few b e t = (omega (arith, many-rows b t, few-rows b t (legal-sized b e), stands t .4), stands t .4)
+rows-few b e t = (omega (arith, many-in b t, few-rows b t (legal-sized b e), stands t .4), stands t .4)
 
 -- a turn of the loop that looks for a binding
 pub done-turn : (a : Act) (t : Table) (k : ℕ) (qs : List Kept) (count i : ℕ) → i < count → count ≤ length qs

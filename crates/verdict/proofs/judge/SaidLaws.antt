@@ -19,7 +19,7 @@ use Rattle.names.specs.Rule.{inRange, takes}
 use Rattle.names.proofs.RuleLaws.{takes-unstepped, step-is, plain-step, plain-frames}
 use Rattle.names.specs.declared.model.Model.{Model}
 use Rattle.names.specs.Places.{stpPriority, stpPortPriority, srPortLargestFrame, pairBridgeNum, pairBridgeState, staticAllowed, staticState, vlanName, vlanEgress, vlanForbidden, vlanUntagged, vlanRowStatus}
-use Rattle.answer.specs.Writes.{status, field}
+use Rattle.answer.specs.Writes.{status, attribute}
 use Rattle.block.specs.declared.tables.Table.{Table}
 use Rattle.block.specs.declared.tables.Table.the-variants.{Vlan as vlan, Static as static, Pair as pair}
 use Rattle.answer.specs.Tables.{egress, forbidden, untagged, allowed, bridgeNumber, ColumnOf, tableAt, statusSaid, integerSaid}
@@ -83,19 +83,19 @@ module _ (n : Model) (xs : List ℕ) where
 
   allowed-says : Means n staticAllowed xs (saidPorts n xs)
   unfolding objects
-  allowed-says = ports-say static staticAllowed (field (allowed (setOf xs))) (λ k. refl)
+  allowed-says = ports-say static staticAllowed (attribute (allowed (setOf xs))) (λ k. refl)
 
   egress-says : Means n vlanEgress xs (saidPorts n xs)
   unfolding objects
-  egress-says = ports-say vlan vlanEgress (field (egress (setOf xs))) (λ k. refl)
+  egress-says = ports-say vlan vlanEgress (attribute (egress (setOf xs))) (λ k. refl)
 
   forbidden-says : Means n vlanForbidden xs (saidPorts n xs)
   unfolding objects
-  forbidden-says = ports-say vlan vlanForbidden (field (forbidden (setOf xs))) (λ k. refl)
+  forbidden-says = ports-say vlan vlanForbidden (attribute (forbidden (setOf xs))) (λ k. refl)
 
   untagged-says : Means n vlanUntagged xs (saidPorts n xs)
   unfolding objects
-  untagged-says = ports-say vlan vlanUntagged (field (untagged (setOf xs))) (λ k. refl)
+  untagged-says = ports-say vlan vlanUntagged (attribute (untagged (setOf xs))) (λ k. refl)
 
   name-says : leb (length xs) 32 ≡ true → Means n vlanName xs (wrongly 0)
   unfolding objects
@@ -159,7 +159,7 @@ pair-number : (xs : List ℕ) (v : ℕ) → contentSaidOf pairBridgeNum xs (rang
 pair-number xs v = go (inRange (objectAt pairBridgeNum) v)
   where
     go : (t : Bool) → contentSaidOf pairBridgeNum xs (cond (t && not (eqb pairBridgeNum vlanRowStatus && eqb v 3)) (record { fault = 0; value = v }) (wrongly 10))
-        ≡ saidTo pair (Option·map field (cond t (some (bridgeNumber v)) none))
+        ≡ saidTo pair (Option·map attribute (cond t (some (bridgeNumber v)) none))
     go true = refl
     go false = refl
 

@@ -4,7 +4,7 @@ use crate::batches::Batch;
 use crate::model::bridge::Bridge;
 use crate::model::calls::BLOCK_NOT_LEGAL;
 use crate::model::console::{Event, Stream, HEADER_WRONG};
-use crate::model::message::{read, Binding, Refusal, WRONG_HEAD};
+use crate::model::message::{read, Binding, Refusal, HEAD_WRONG};
 use crate::model::names::{GrowingTable, GROWING};
 use crate::model::terms::{named_by, Named};
 use std::collections::BTreeSet;
@@ -70,7 +70,7 @@ pub fn take_frame(batch: &[u8]) -> Result<(Vec<u8>, &[u8]), u32> {
 /// The bindings of a set. The kind is judged at field 01, before the fields behind it.
 fn read_set(message: &[u8]) -> Result<Vec<Binding>, Refusal> {
     if matches!(message, [0x01, 0, 1, kind, ..] if *kind != 3) {
-        return Err(Refusal::of(WRONG_HEAD));
+        return Err(Refusal::of(HEAD_WRONG));
     }
     Ok(read(message)?.bindings)
 }

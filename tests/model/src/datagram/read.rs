@@ -3,7 +3,7 @@
 use super::{field, tag, CONTENTS, GET, GET_NEXT, LONGEST, MOST_BINDINGS, RESPONSE, SET};
 
 pub const STATUS: u32 = 7;
-pub const TOO_MANY: u32 = 8;
+pub const TOO_MANY_BINDINGS: u32 = 8;
 pub const BROKEN: u32 = 16;
 pub const VERSION: u32 = 17;
 pub const KIND: u32 = 18;
@@ -188,7 +188,7 @@ fn binding(kind: u8, list: &mut Enclosure) -> Result<Vec<u8>, u32> {
 /// A 17th binding is told by its tag and by length octets that are there and definite.
 fn after_the_last(list: &Enclosure) -> u32 {
     if list.all[list.at] == tag::SEQUENCE && list.length().is_ok() {
-        TOO_MANY
+        TOO_MANY_BINDINGS
     } else {
         BROKEN
     }

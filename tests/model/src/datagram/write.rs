@@ -6,11 +6,11 @@ use super::{tag, CONTENTS, LONGEST, MOST_BINDINGS, RESPONSE};
 /// A refusal's number, and the offset that goes with 4 to 8.
 pub type Refusal = (u32, u32);
 
-const CUT: u32 = 4;
+const FIELD_CUT: u32 = 4;
 const TAG: u32 = 5;
 const LENGTH: u32 = 6;
 const KIND: u32 = 7;
-const TOO_MANY: u32 = 8;
+const TOO_MANY_BINDINGS: u32 = 8;
 
 /// A field with a header and contents in the shortest form.
 pub fn shortest(tag: u8, contents: &[u8]) -> Vec<u8> {
@@ -70,12 +70,12 @@ impl<'a> Place<'a> {
         length: impl Fn(u8, usize) -> bool,
     ) -> Result<(u8, &'a [u8]), Refusal> {
         if self.at + 3 > end {
-            return self.refuse(CUT);
+            return self.refuse(FIELD_CUT);
         }
         let size = usize::from(u16::from_be_bytes([self.all[self.at + 1], self.all[self.at + 2]]));
         let start = self.at + 3;
         if start + size > end {
-            return self.refuse(CUT);
+            return self.refuse(FIELD_CUT);
         }
         let found = self.all[self.at];
         if !tag(found) {
@@ -129,7 +129,7 @@ fn binding(message: &[u8], at: usize) -> Result<(Vec<u8>, usize), Refusal> {
 /// What stands after 16 bindings: a header with a binding's tag is too many; else the field is cut or has a wrong tag.
 fn after_the_last(message: &[u8], at: usize) -> Refusal {
     if at + 3 <= message.len() && message[at] == 0x10 {
-        return (TOO_MANY, at as u32);
+        return (TOO_MANY_BINDINGS, at as u32);
     }
     match (Place { all: message, at }).field(message.len(), |_| false, |_, _| true) {
         Err(refusal) => refusal,

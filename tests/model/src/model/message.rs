@@ -24,11 +24,11 @@ impl Refusal {
     }
 }
 
-pub const CUT: u32 = 4;
-pub const WRONG_TAG: u32 = 5;
-pub const WRONG_LENGTH: u32 = 6;
-pub const WRONG_HEAD: u32 = 7;
-pub const TOO_MANY: u32 = 8;
+pub const FIELD_CUT: u32 = 4;
+pub const TAG_NOT_ALLOWED: u32 = 5;
+pub const LENGTH_WRONG: u32 = 6;
+pub const HEAD_WRONG: u32 = 7;
+pub const TOO_MANY_BINDINGS: u32 = 8;
 
 #[derive(Clone, Copy, PartialEq, Eq, Debug)]
 pub enum Kind {
@@ -88,14 +88,14 @@ impl<'a> Reader<'a> {
     fn header(&self) -> Result<(u8, usize), Refusal> {
         match self.rest {
             [tag, high, low, ..] => Ok((*tag, usize::from(*high) * 256 + usize::from(*low))),
-            _ => Err(self.refuse(CUT)),
+            _ => Err(self.refuse(FIELD_CUT)),
         }
     }
 
     /// The next field: cut comes before everything else about it.
     fn field(&mut self) -> Result<Field<'a>, Refusal> {
         let (tag, length) = self.header()?;
-        let contents = self.rest.get(HEADER..HEADER + length).ok_or(self.refuse(CUT))?;
+        let contents = self.rest.get(HEADER..HEADER + length).ok_or(self.refuse(FIELD_CUT))?;
         let field = Field { place: self.place, tag, contents };
         self.rest = &self.rest[HEADER + length..];
         self.place += HEADER + length;
@@ -108,7 +108,7 @@ impl<'a> Reader<'a> {
         if field.tag == expected {
             Ok(field)
         } else {
-            Err(field.refuse(WRONG_TAG))
+            Err(field.refuse(TAG_NOT_ALLOWED))
         }
     }
 }
@@ -120,7 +120,7 @@ impl<'a> Field<'a> {
 
     /// The contents of a field that must have this length.
     fn fixed<const LENGTH: usize>(&self) -> Result<[u8; LENGTH], Refusal> {
-        self.contents.try_into().map_err(|_| self.refuse(WRONG_LENGTH))
+        self.contents.try_into().map_err(|_| self.refuse(LENGTH_WRONG))
     }
 
     /// Reads the fields inside; their places still count from the message's first octet.
@@ -136,18 +136,18 @@ pub fn read(octets: &[u8]) -> Result<Request, Refusal> {
         [0] => Kind::Get,
         [1] => Kind::GetNext,
         [3] => Kind::Set,
-        [_] => return Err(first.refuse(WRONG_HEAD)),
+        [_] => return Err(first.refuse(HEAD_WRONG)),
     };
     let id = u32::from_be_bytes(reader.tagged(0x02)?.fixed()?);
     let third = reader.tagged(0x03)?;
     if third.fixed()? != [0, 0] {
-        return Err(third.refuse(WRONG_HEAD));
+        return Err(third.refuse(HEAD_WRONG));
     }
     let mut bindings = Vec::new();
     while !reader.rest.is_empty() {
         let (tag, _) = reader.header()?;
         if bindings.len() == MOST_BINDINGS && tag == 0x10 {
-            return Err(reader.refuse(TOO_MANY));
+            return Err(reader.refuse(TOO_MANY_BINDINGS));
         }
         bindings.push(read_binding(reader.tagged(0x10)?.inside(), kind)?);
     }
@@ -158,7 +158,7 @@ fn read_binding(mut reader: Reader, kind: Kind) -> Result<Binding, Refusal> {
     let name = read_name(&reader.tagged(0x11)?)?;
     let content = read_content(&reader.field()?, kind)?;
     if !reader.rest.is_empty() {
-        return Err(reader.refuse(WRONG_LENGTH));
+        return Err(reader.refuse(LENGTH_WRONG));
     }
     Ok(Binding { name, content })
 }
@@ -166,7 +166,7 @@ fn read_binding(mut reader: Reader, kind: Kind) -> Result<Binding, Refusal> {
 fn read_name(field: &Field) -> Result<Vec<u32>, Refusal> {
     let octets = field.contents;
     if !octets.len().is_multiple_of(4) || !(2..=128).contains(&(octets.len() / 4)) {
-        return Err(field.refuse(WRONG_LENGTH));
+        return Err(field.refuse(LENGTH_WRONG));
     }
     Ok(octets.chunks_exact(4).map(|sub_id| u32::from_be_bytes(sub_id.try_into().unwrap())).collect())
 }
@@ -175,13 +175,13 @@ fn read_content(field: &Field, kind: Kind) -> Result<Content, Refusal> {
     let octets = field.contents;
     match (field.tag, kind) {
         (0x20, Kind::Get | Kind::GetNext) if octets.is_empty() => Ok(Content::Null),
-        (0x20, Kind::Get | Kind::GetNext) => Err(field.refuse(WRONG_LENGTH)),
+        (0x20, Kind::Get | Kind::GetNext) => Err(field.refuse(LENGTH_WRONG)),
         (0x21, Kind::Set) => Ok(Content::Integer(i32::from_be_bytes(field.fixed()?))),
         (0x22, Kind::Set) if octets.len() <= 255 => Ok(Content::String(octets.to_vec())),
-        (0x22, Kind::Set) => Err(field.refuse(WRONG_LENGTH)),
+        (0x22, Kind::Set) => Err(field.refuse(LENGTH_WRONG)),
         (0x23, Kind::Set) => Ok(Content::Unsigned(u32::from_be_bytes(field.fixed()?))),
         (0x24, Kind::Set) => Ok(Content::Counter(u32::from_be_bytes(field.fixed()?))),
-        _ => Err(field.refuse(WRONG_TAG)),
+        _ => Err(field.refuse(TAG_NOT_ALLOWED)),
     }
 }
 

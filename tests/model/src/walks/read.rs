@@ -2,9 +2,9 @@
 
 use std::ops::Range;
 
-pub const CUT: u32 = 4;
-pub const WRONG_TAG: u32 = 5;
-pub const WRONG_LENGTH: u32 = 6;
+pub const FIELD_CUT: u32 = 4;
+pub const TAG_NOT_ALLOWED: u32 = 5;
+pub const LENGTH_WRONG: u32 = 6;
 pub const NOT_ASCENDING: u32 = 24;
 
 /// A refusal and its offset from the walk's start; 24 has none, which is 0.
@@ -29,11 +29,11 @@ pub struct Instance {
 
 /// A field's tag and the place of its contents; `end` is where its enclosure ends.
 fn field(walk: &[u8], at: usize, end: usize) -> Result<(u8, Range<usize>), Fault> {
-    let [tag, high, low] = *walk[at..end].first_chunk::<3>().ok_or(Fault { number: CUT, offset: at })?;
+    let [tag, high, low] = *walk[at..end].first_chunk::<3>().ok_or(Fault { number: FIELD_CUT, offset: at })?;
     let start = at + 3;
     let stop = start + usize::from(u16::from_be_bytes([high, low]));
     if stop > end {
-        return fault(CUT, at);
+        return fault(FIELD_CUT, at);
     }
     Ok((tag, start..stop))
 }
@@ -42,22 +42,22 @@ fn field(walk: &[u8], at: usize, end: usize) -> Result<(u8, Range<usize>), Fault
 fn inside(walk: &[u8], at: usize, place: Range<usize>) -> Result<Instance, Fault> {
     let (tag, name) = field(walk, place.start, place.end)?;
     if tag != 0x11 {
-        return fault(WRONG_TAG, place.start);
+        return fault(TAG_NOT_ALLOWED, place.start);
     }
     if !name.len().is_multiple_of(4) || !(2..=128).contains(&(name.len() / 4)) {
-        return fault(WRONG_LENGTH, place.start);
+        return fault(LENGTH_WRONG, place.start);
     }
     let (tag, content) = field(walk, name.end, place.end)?;
     let right = match tag {
         0x21 | 0x23 | 0x24 => content.len() == 4,
         0x22 => content.len() <= 255,
-        _ => return fault(WRONG_TAG, name.end),
+        _ => return fault(TAG_NOT_ALLOWED, name.end),
     };
     if !right {
-        return fault(WRONG_LENGTH, name.end);
+        return fault(LENGTH_WRONG, name.end);
     }
     if content.end < place.end {
-        return fault(WRONG_LENGTH, content.end);
+        return fault(LENGTH_WRONG, content.end);
     }
     let sub_ids = walk[name].chunks_exact(4).map(|sub_id| u32::from_be_bytes(sub_id.try_into().unwrap()));
     Ok(Instance { at, name: sub_ids.collect(), tag, octets: walk[content].to_vec() })
@@ -70,7 +70,7 @@ pub fn read(walk: &[u8]) -> Result<Vec<Instance>, Fault> {
     while at < walk.len() {
         let (tag, place) = field(walk, at, walk.len())?;
         if tag != 0x10 {
-            return fault(WRONG_TAG, at);
+            return fault(TAG_NOT_ALLOWED, at);
         }
         let next = place.end;
         let instance = inside(walk, at, place)?;

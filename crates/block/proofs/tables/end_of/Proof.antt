@@ -5,10 +5,11 @@ use native.Mathlib.Omega.{arith}
 use Rattle.octets.specs.Numbers.{beAt}
 use Rattle.block.specs.Layout.{blockSize}
 use Rattle.block.specs.Tables.{standing}
-use Rattle.block.proofs.StandingLaws.{many-rows, rows-inside}
+use Rattle.block.proofs.StandingLaws.{rows-inside}
 use borrow.Author.Needs.{needs}
 use Rattle.block.proofs.tables.end_of.Statement.{statement}
 use Rattle.block.proofs.tables.end_of.Tie as tie
+use Rattle.block.proofs.ReadLaws.{many-in}
 
 standing-of-requires : tie.Need-standing-of-requires
 standing-of-requires c κs = search needs
@@ -24,7 +25,7 @@ inside : (c : tie.After-row-count) →
 inside c =
     let d = c .before .before .before in
     let b = d .args .block .now in
-    let n = c .row-count .ensures ∙ many-rows b (d .args .t) in
+    let n = c .row-count .ensures ∙ many-in b (d .args .t) in
     (rw n (omega (arith, rows-inside b (d .args .t) (d .pre), d .pre .long)), n)
 
 mul-result : tie.Need-mul-result

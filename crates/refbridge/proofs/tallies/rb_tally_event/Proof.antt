@@ -43,6 +43,7 @@ use Rattle.tally.specs.declared.steps.Scan.{Scan}
 use Rattle.tally.specs.declared.judge.Plan.{Plan}
 use Rattle.refbridge.specs.declared.RbResult.{RbResult}
 use Rattle.tally.specs.Run.{feed}
+use Rattle.refbridge.specs.Tallies.{fedBy}
 use Rattle.tally.specs.Scan.{scanned, planOf, markOf, atWrite}
 use Rattle.tally.proofs.TallyLaws.{number-so, cases-so, mark-so}
 use Rattle.tally.proofs.Shared.{LentShared, lends-shared, back-again}
@@ -124,7 +125,7 @@ module _ {M : Type 1} (𝓤 : URA M) (H : Heap 𝓤) (A : Atoms 𝓤) (W : Given
   p = planOf z m event
 
   abbrev Said : RbResult → List RbCase → ℕ → Type 0
-  Said r zs m′ = (r .number ≡ feed ys m event id .number) × (r .count ≡ 0) × (r .offset ≡ 0) × (zs ≡ feed ys m event id .cases) × (m′ ≡ feed ys m event id .mark)
+  Said r zs m′ = (fedBy r zs m′ ≡ feed ys m event id) × (r .count ≡ 0) × (r .offset ≡ 0)
 
   exits : (r : RbResult) (w : Val) (zs : List RbCase) (m′ : ℕ) → Said r zs m′ → length zs ≡ length ys
       → ent 𝓤 (⋆ 𝓤 H A (‵ (flft κ q) ∷ ‵ (flft κ′ q′) ∷ ‵ (finally R γ zs) ∷ ‵ (fres γ′ (u8 .coded .code m′)) ∷ ‵ (Q.the-row .own r (w ∷ [])) ∷ [])) (Post w)
@@ -231,7 +232,7 @@ module _ {M : Type 1} (𝓤 : URA M) (H : Heap 𝓤) (A : Atoms 𝓤) (W : Given
         move ! (32 ∷ 33 ∷ []) $ free1 ! $ move ! (30 ∷ 31 ∷ []) $ free1 ! $ move ! (28 ∷ 29 ∷ []) $ free1 ! $ move ! (26 ∷ 27 ∷ []) $ free1 ! $ move ! (24 ∷ 25 ∷ []) $ free1 ! $ move ! (22 ∷ 23 ∷ []) $ free1 ! $ move ! (20 ∷ 21 ∷ []) $ free1 ! $
         move ! (18 ∷ 19 ∷ []) $ free1 ! $ move ! (16 ∷ 17 ∷ []) $ free1 ! $ move ! (14 ∷ 15 ∷ []) $ free1 ! $ move ! (12 ∷ 13 ∷ []) $ free1 ! $ move ! (10 ∷ 11 ∷ []) $ free1 ! $ move ! (8 ∷ 9 ∷ []) $ free1 ! $ free0 ! $
         move ! (1 ∷ []) $ split ! $ move ! (5 ∷ []) $ split ! $ keep ! (2 ∷ 0 ∷ 5 ∷ 7 ∷ 4 ∷ []) $
-        by ! (exits r₄ k (zs .0) (ws .0) (ap (λ (r : RbResult). r .number) e₄ ∙ number-so ys m event id, ap (λ (r : RbResult). r .count) e₄, ap (λ (r : RbResult). r .offset) e₄, e₃ ∙ cases-so ys m event id, e₂ .1 ∙ mark-so ys m event id) l))))))))))))))))))))))))))))))))))))
+        by ! (exits r₄ k (zs .0) (ws .0) ((λ i. record { number = (ap (λ (r : RbResult). r .number) e₄ ∙ number-so ys m event id) i; cases = (e₃ ∙ cases-so ys m event id) i; mark = (e₂ .1 ∙ mark-so ys m event id) i }), ap (λ (r : RbResult). r .count) e₄, ap (λ (r : RbResult). r .offset) e₄) l))))))))))))))))))))))))))))))))))))
 
 module _ {M : Type 1} (𝓤 : URA M) (H : Heap 𝓤) (A : Atoms 𝓤) (W : Given 𝓤 H A) (mem : Memory → SProp 𝓤) (run : Routine → Fun 𝓤) (𝓣 : Tables 𝓤 H) (known-scan : Triple 𝓤 (𝓣 .C #scan) (ScanC 𝓤 H A mem run))
     (known-decide : Triple 𝓤 (𝓣 .C #decide) (DecideC 𝓤 H A mem run)) (known-put : Triple 𝓤 (𝓣 .C #put-state) (PutC 𝓤 H A mem run)) (known-result : Triple 𝓤 (𝓣 .C #event-result) (ResultC 𝓤 H A mem run)) where

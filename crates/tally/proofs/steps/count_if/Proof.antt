@@ -5,14 +5,14 @@ use lib.Dec.{ltb}
 use borrow.Author.Tests.{ltb-true}
 use Rattle.tally.specs.Codes.{mostCases}
 use Rattle.tally.specs.Scan.{more}
-use Rattle.tally.proofs.TestLaws.{and-right}
+use Rattle.octets.proofs.BoolLaws.{right-of}
 use Rattle.tally.proofs.steps.count_if.Statement.{statement}
 use Rattle.tally.proofs.steps.count_if.Tie as tie
 
 add-result : tie.Need-add-result
 add-result c =
     let n = c .before .args .n in
-    let less : n < mostCases = ltb-true n mostCases (and-right (c .before .args .hit) (ltb n mostCases) (c .if1 .taken)) in
+    let less : n < mostCases = ltb-true n mostCases (right-of (c .before .args .hit) (ltb n mostCases) (c .if1 .taken)) in
     omega arith
 
 returns : tie.Need-returns

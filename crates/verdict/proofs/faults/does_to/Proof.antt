@@ -24,8 +24,8 @@ removes-row-requires c κs = search needs
 enum-told-3 : tie.Need-enum-told-3
 enum-told-3 c = search needs
 
-is-field-of-requires : tie.Need-is-field-of-requires
-is-field-of-requires c κs = search needs
+is-attribute-of-requires : tie.Need-is-attribute-of-requires
+is-attribute-of-requires c κs = search needs
 
 returns : tie.Need-returns
 returns c = rw (c .makes-row .ensures, c .before .is-status-of .ensures, c .before .before .enum-told .given .1)
@@ -34,7 +34,7 @@ returns-2 : tie.Need-returns-2
 returns-2 c = rw (c .removes-row .ensures, c .before .is-status-of2 .ensures, c .before .before .enum-told2 .given .1)
 
 returns-3 : tie.Need-returns-3
-returns-3 c = rw (c .is-field-of .ensures, c .before .enum-told3 .given .1)
+returns-3 c = rw (c .is-attribute-of .ensures, c .before .enum-told3 .given .1)
 
 pub does-to-spec : {M : Type 1} → statement M
 does-to-spec =
@@ -47,7 +47,7 @@ does-to-spec =
     is-status-of-requires-2
     removes-row-requires
     enum-told-3
-    is-field-of-requires
+    is-attribute-of-requires
     returns
     returns-2
     returns-3)

@@ -1,7 +1,7 @@
 -- `verdict::faults::row_fault` meets its contract: the status column's number, Egress and Forbidden, and the other columns. Assumes nothing.
 use mathlib.Core.Path.{sym, _∙_}
 use Rattle.verdict.proofs.faults.StatusLaws.{makes-row, removes-row, fills-row, present-key}
-use Rattle.verdict.proofs.faults.FaultLaws.{status-fault, field-fault, clash-at}
+use Rattle.verdict.proofs.faults.FaultLaws.{status-fault, attribute-fault, clash-at}
 use borrow.Author.Needs.{needs}
 use Rattle.verdict.proofs.faults.row_fault.Statement.{statement}
 use Rattle.verdict.proofs.faults.row_fault.Tie as tie
@@ -49,13 +49,13 @@ is-done-requires-2 c κs = search needs
 shares-port-requires : tie.Need-shares-port-requires
 shares-port-requires c κs = search needs
 
-field-fault-requires : tie.Need-field-fault-requires
-field-fault-requires c κs = search needs
+attribute-fault-requires : tie.Need-attribute-fault-requires
+attribute-fault-requires c κs = search needs
 
 returns-2 : tie.Need-returns-2
 returns-2 c s g =
     rw (
-      field-fault _ _ _ _ _ _ _ _ _ (λ p. c .before .before .before .before .before .if1 .left (p ∙ sym (c .before .before .before .before .before .before .status-place .ensures))),
+      attribute-fault _ _ _ _ _ _ _ _ _ (λ p. c .before .before .before .before .before .if1 .left (p ∙ sym (c .before .before .before .before .before .before .status-place .ensures))),
       clash-at _ _ _ _ _ _ _ _ g,
       makes-row _ s,
       removes-row _ s,
@@ -66,15 +66,15 @@ returns-2 c s g =
       ← c .before .before .before .is-done2 .ensures,
       ← c .before .shares-port .ensures _ s,
     )
-    (c .field-fault .ensures)
+    (c .attribute-fault .ensures)
 
-field-fault-requires-2 : tie.Need-field-fault-requires-2
-field-fault-requires-2 c κs = search needs
+attribute-fault-requires-2 : tie.Need-attribute-fault-requires-2
+attribute-fault-requires-2 c κs = search needs
 
 returns-3 : tie.Need-returns-3
 returns-3 c s g =
     rw (
-      field-fault _ _ _ _ _ _ _ _ _ (λ p. c .before .before .before .before .if1 .left (p ∙ sym (c .before .before .before .before .before .status-place .ensures))),
+      attribute-fault _ _ _ _ _ _ _ _ _ (λ p. c .before .before .before .before .if1 .left (p ∙ sym (c .before .before .before .before .before .status-place .ensures))),
       clash-at _ _ _ _ _ _ _ _ g,
       makes-row _ s,
       removes-row _ s,
@@ -84,7 +84,7 @@ returns-3 c s g =
       ← c .before .before .before .is-done .ensures,
       ← c .before .before .is-done2 .ensures,
     )
-    (c .field-fault2 .ensures)
+    (c .attribute-fault2 .ensures)
 
 pub row-fault-spec : {M : Type 1} → statement M
 row-fault-spec =
@@ -101,7 +101,7 @@ row-fault-spec =
     is-done-requires
     is-done-requires-2
     shares-port-requires
-    field-fault-requires
+    attribute-fault-requires
     returns-2
-    field-fault-requires-2
+    attribute-fault-requires-2
     returns-3)

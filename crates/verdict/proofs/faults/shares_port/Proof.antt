@@ -11,8 +11,8 @@ sets-before-requires c κs = search needs
 after-statuses-requires : tie.Need-after-statuses-requires
 after-statuses-requires c κs = search needs
 
-after-fields-requires : tie.Need-after-fields-requires
-after-fields-requires c κs = search needs
+after-attributes-requires : tie.Need-after-attributes-requires
+after-attributes-requires c κs = search needs
 
 are-disjoint-requires : tie.Need-are-disjoint-requires
 are-disjoint-requires c κs = search needs
@@ -22,7 +22,7 @@ returns c =
     λ m s.
     let before = c .before .before .before .before .sets-before .ensures in
     let made = c .before .before .before .after-statuses .ensures m s _ before in
-    rw (c .before .are-disjoint .ensures) (sym (shares-sets m _ _ _ _ (c .before .before .after-fields .ensures m s _ made)))
+    rw (c .before .are-disjoint .ensures) (sym (shares-sets m _ _ _ _ (c .before .before .after-attributes .ensures m s _ made)))
 
 pub shares-port-spec : {M : Type 1} → statement M
 shares-port-spec =
@@ -30,6 +30,6 @@ shares-port-spec =
     (tie.spec
     sets-before-requires
     after-statuses-requires
-    after-fields-requires
+    after-attributes-requires
     are-disjoint-requires
     returns)
