@@ -5,7 +5,7 @@ use Prim.Native.Nat.{ℕ, suc, ◌+◌, ◌-◌, ◌≤◌, ◌<◌}
 use native.Mathlib.Omega.{arith}
 use lib.ListN.{length, take, drop, get_or, set, length-append, length-drop, take-append-drop, get_or-append}
 use lib.Seq.{drop-cons, append_snoc, length-take-le, take_at, drop_at, set_at, slice, slice_empty, slice-cons, length-slice, take-suc, drop-append-le, get_or-take, get_or-drop, get_or-append-add, take-add, drop-drop}
-use Rattle.octets.specs.Parts.{part, patch, zeros}
+use Rattle.octets.specs.Parts.{patch, zeros}
 use Rattle.octets.specs.Gaps.{raised, lowered, opened, closed}
 use Rattle.octets.proofs.PartLaws.{length-zeros, patch-mid}
 

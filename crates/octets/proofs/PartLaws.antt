@@ -97,8 +97,10 @@ pub zero_run-zeros : (x z : List ℕ) (p n : ℕ) → length x ≡ p → zero_ru
 unfolding zero_run zeros
 zero_run-zeros x z p zero e = refl
 zero_run-zeros x z p (suc n) e =
-    rw (get_or_at x 0 (zeros n ++ z) 0 p e)
-    (rw (← append_snoc x 0 (zeros n ++ z)) (zero_run-zeros (x ++ (0 ∷ [])) z (p + 1) n (length-append x (0 ∷ []) ∙ omega arith)))
+    let more : zero_run (x ++ (0 ∷ (zeros n ++ z))) (p + 1) n ≡ true =
+    ap (λ (u : List ℕ). zero_run u (p + 1) n) (sym (append_snoc x 0 (zeros n ++ z)))
+    ∙ zero_run-zeros (x ++ (0 ∷ [])) z (p + 1) n (length-append x (0 ∷ []) ∙ omega arith) in
+    rw (get_or_at x 0 (zeros n ++ z) 0 p e) more
 
 -- a patch over the middle of three parts
 pub patch-mid : (x y z m : List ℕ) (p : ℕ) → length x ≡ p → length y ≡ length m → patch (x ++ (y ++ z)) p m ≡ x ++ m ++ z

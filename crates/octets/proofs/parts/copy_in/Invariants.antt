@@ -1,0 +1,12 @@
+-- `octets::parts::copy_in` meets its contract. The invariant: the first i octets of src are patched in. Assumes nothing.
+use mathlib.Core.Path.{◌≡◌}
+use Prim.Native.Nat.{◌≤◌, ◌-◌}
+use lib.ListN.{length, take}
+use Rattle.octets.specs.Parts.{patch}
+use Rattle.octets.proofs.parts.copy_in.Given as goal
+
+abbrev pub invariant-loop-i : goal.invariant-loop-i
+invariant-loop-i l = (l.i ≤ length l.src) × (length l.s ≡ length l.initial.s) × (l.s ≡ patch l.initial.s l.at (take l.i l.src))
+
+abbrev pub decreases-loop-i : goal.decreases-loop-i
+decreases-loop-i l = length l.src - l.i
