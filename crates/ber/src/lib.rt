@@ -1,4 +1,6 @@
 // BER: fields, numbers, names and contents at their places in a datagram.
+#![tactic(auto)]
+
 pub mod tags;
 
 ghost use Rattle.std.specs.Prelude.{◌≡◌, ◌+◌, ◌-◌, ◌*◌, ◌≤◌, ◌^◌, true, false, cond, leb, length};

@@ -1,4 +1,6 @@
 // Changes of a block in place. Each is an equation of contents: from the image of a content to the image of the changed one.
+#![tactic(auto)]
+
 pub mod setup;
 
 ghost use Rattle.std.specs.Prelude.{◌≡◌, ◌<◌, ◌≤◌, ◌^◌, length};

@@ -1,4 +1,6 @@
 // Requests over the serial console: a stream of frames, taken in chunks.
+#![tactic(auto)]
+
 pub mod frames;
 pub mod header;
 pub mod state;

@@ -1,4 +1,6 @@
 // Sets up blocks of the older edition, of both devices and with 1, 8, 9, 63 and 64 ports, and prints their octets, 16 a line, without the lines of zeros.
+#![tactic(auto)]
+
 ghost use Rattle.std.specs.Prelude.{◌+◌, ◌≤◌, length};
 
 use changes::setup::set_up;

@@ -1,4 +1,6 @@
 // Which instances there are, and the next one above a name.
+#![tactic(auto)]
+
 ghost use Rattle.std.specs.Prelude.{◌≡◌, ◌≤◌, length, true, ◌++◌};
 ghost use Rattle.names.specs.SubIds.{subids};
 ghost use Rattle.names.specs.Index.{first_above, answered};

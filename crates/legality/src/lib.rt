@@ -1,4 +1,6 @@
 // Whether a block is legal: the image of a valid content.
+#![tactic(auto)]
+
 ghost use Rattle.std.specs.Prelude.{◌≡◌, true, ◌&&◌, ◌+◌, ◌%◌, ◌≤◌, ◌<◌, ltb, length, get_or, take, drop};
 ghost use Rattle.names.specs.Index.{can_have, index};
 ghost use Rattle.names.specs.Table.{objects};

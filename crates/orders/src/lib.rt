@@ -1,4 +1,6 @@
 // Messages played in one order and in another, by the exported calls: demand 3's two sets, and the batches that E13's check accepts. No host calls these functions; their contracts are the statements of order for the exported calls.
+#![tactic(auto)]
+
 pub mod batches;
 
 ghost use Rattle.orders.specs.Pairs.{BothOrders};

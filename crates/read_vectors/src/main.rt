@@ -1,5 +1,7 @@
 // Reads damaged requests and prints what each reading gives: a get and a set cut at every length and changed at every octet, and a get with 0 to 18
 // bindings.
+#![tactic(auto)]
+
 ghost use Rattle.std.specs.Prelude.{◌+◌, ◌*◌, ◌<◌, ◌≤◌, length};
 
 use io::{print_decimal, write_all};

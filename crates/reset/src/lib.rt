@@ -1,4 +1,6 @@
 // A reset: static rows of status 4 go, and the rows behind them close up, in one pass and in place.
+#![tactic(auto)]
+
 ghost use Rattle.std.specs.Prelude.{◌≡◌, ◌<◌, ◌≤◌, true, length, take};
 ghost use Rattle.block.specs.Layout.{block_size, most_rows};
 ghost use Rattle.block.specs.Content.{Content, WellFormed, with_statics};

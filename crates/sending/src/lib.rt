@@ -1,4 +1,6 @@
 // A response written as a datagram: the bindings are measured first, and when the whole is known to fit, each part is put in its place in the room.
+#![tactic(auto)]
+
 pub mod response;
 pub mod writing;
 

@@ -1,1 +1,2 @@
 // The shortest datagrams: definitions and theorems over the crate datagram, no code.
+#![tactic(auto)]

@@ -1,6 +1,8 @@
 // The run tally: a lent list of case records and a lent mark, fed with events one at a time. The list is a slice of structs, so the functions that
 // touch it are few: `scan` reads every record once and `put_state` writes one state. Everything else is on numbers: what a record adds to the pass
 // (steps), and what the pass means for an event and for a report (judge). The exported calls join them (refbridge's `tallies`).
+#![tactic(auto)]
+
 ghost use Rattle.std.specs.Prelude.{◌≡◌};
 ghost use Rattle.tally.specs.Scan.{scanned, at_write};
 

@@ -1,4 +1,6 @@
 // Timer values in two units that the type checker keeps apart: hundredths and 256ths of a second.
+#![tactic(auto)]
+
 ghost use Rattle.std.specs.Prelude.{◌≡◌};
 ghost use Rattle.timers.specs.Timers.{to256ths, to_hundredths, ticks_answer, hundredths_answer};
 

@@ -1,4 +1,6 @@
 // What an instance holds, read from the block.
+#![tactic(auto)]
+
 ghost use Rattle.std.specs.Prelude.{◌≡◌, ℕ, ◌-◌, ◌/◌, ◌%◌, ◌<◌, ◌≤◌, true, [], length, get_or, take};
 ghost use Rattle.octets.specs.Numbers.{be_octets};
 ghost use Rattle.octets.specs.Ports.{port_octets};

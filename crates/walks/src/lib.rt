@@ -1,4 +1,6 @@
 // Comparing the reference's walk with a device's.
+#![tactic(auto)]
+
 pub mod compare;
 pub mod contrast;
 pub mod turn;
