@@ -39,8 +39,8 @@ module _ (b : List ℕ) (at i : ℕ) where
       from-whole s m = rw more (frames-whole b at h (most_frames + 1 - (i + 1)) s m)
 
 -- a frame that is not wrong is whole
-pub goes_on_lem : (b : List ℕ) (at r : ℕ) → Goes b at → Means b at (Framed.Refused r) → ⊥
-goes_on_lem b at r g m = go g.1.0 g.1.1
+pub goes_on : (b : List ℕ) (at r : ℕ) → Goes b at → Means b at (Framed.Refused r) → ⊥
+goes_on b at r g m = go g.1.0 g.1.1
   where
     go : (n : ℕ) → (frames_of n (drop at b)).1 ≡ 0 → ⊥
     go zero e =

@@ -218,17 +218,17 @@ fits-if xs {n} = go (all_below (2 ^ 32) (sub_ids xs))
     go false e z = absurd (z e)
 
 -- a number that goes on has an octet more
-goes_on_lem : (xs : List ℕ) → ends_from false xs ≡ true → 0 < length xs
+goes_on : (xs : List ℕ) → ends_from false xs ≡ true → 0 < length xs
 unfolding ends_from
-goes_on_lem [] e = let z : ◌≡◌ {A = ℕ} 0 1 = cc in absurd (omega arith)
-goes_on_lem (x ∷ xs) e = omega arith
+goes_on [] e = let z : ◌≡◌ {A = ℕ} 0 1 = cc in absurd (omega arith)
+goes_on (x ∷ xs) e = omega arith
 
 some_number : (g : Bool) (acc : ℕ) (xs : List ℕ) → ends_from g xs ≡ true → 0 < length xs → 1 ≤ length (numbers_from acc xs)
 unfolding ends_from numbers_from
 some_number g acc [] e h = absurd (omega arith)
 some_number g acc (x ∷ xs) e h =
     go (ltb x 128) refl
-    (λ q. let k : ends_from false xs ≡ true = rw q at (right_of (not (g && eqb x 128)) (ends_from (ltb x 128) xs) e) in some_number false (acc * 128 + (x - 128)) xs k (goes_on_lem xs k))
+    (λ q. let k : ends_from false xs ≡ true = rw q at (right_of (not (g && eqb x 128)) (ends_from (ltb x 128) xs) e) in some_number false (acc * 128 + (x - 128)) xs k (goes_on xs k))
   where
     go : (t : Bool) → ltb x 128 ≡ t → (ltb x 128 ≡ false → 1 ≤ length (numbers_from (acc * 128 + (x - 128)) xs))
         → 1 ≤ length (cond t ((acc * 128 + x) ∷ numbers_from 0 xs) (numbers_from (acc * 128 + (x - 128)) xs))

@@ -29,7 +29,7 @@ pub record Turned (s t : List ℕ) (i j : ℕ) (xs ys : List Item) (u : Turn) : 
   pub others : List Item
   pub one_left : Left s u.next mine
   pub two-left : Left t u.other others
-  pub goes_on_lem : merge xs ys ≡ appended found (merge mine others)
+  pub goes_on : merge xs ys ≡ appended found (merge mine others)
   pub written : turn_octets u ≡ list_octets found
   pub ones : cond (eqb u.kind 1) 1 0 ≡ total 1 found
   pub twos : cond (eqb u.kind 2) 1 0 ≡ total 2 found
@@ -57,7 +57,7 @@ module _ {s t : List ℕ} {i j : ℕ} {xs ys : List Item} (v : Left s i xs) (w :
         others = ys;
         one_left = n.onward;
         two-left = w;
-        goes_on_lem = rw (n.head, m.head) (merge-below x n.tail y m.tail e);
+        goes_on = rw (n.head, m.head) (merge-below x n.tail y m.tail e);
         written = sym (list-one (only_reference x));
         ones = refl;
         twos = refl;
@@ -80,7 +80,7 @@ module _ {s t : List ℕ} {i j : ℕ} {xs ys : List Item} (v : Left s i xs) (w :
         others = m.tail;
         one_left = v;
         two-left = m.onward;
-        goes_on_lem = rw (n.head, m.head) (merge-above x n.tail y m.tail e);
+        goes_on = rw (n.head, m.head) (merge-above x n.tail y m.tail e);
         written = sym (list-one (only_device y));
         ones = refl;
         twos = refl;
@@ -112,7 +112,7 @@ module _ {s t : List ℕ} {i j : ℕ} {xs ys : List Item} (v : Left s i xs) (w :
             others = m.tail;
             one_left = n.onward;
             two-left = m.onward;
-            goes_on_lem = rw (n.head, m.head) (merge-same x n.tail y m.tail e ∙ rw z);
+            goes_on = rw (n.head, m.head) (merge-same x n.tail y m.tail e ∙ rw z);
             written = rw z;
             ones = rw z;
             twos = rw z;
@@ -129,7 +129,7 @@ module _ {s t : List ℕ} {i j : ℕ} {xs ys : List Item} (v : Left s i xs) (w :
             others = m.tail;
             one_left = n.onward;
             two-left = m.onward;
-            goes_on_lem = rw (n.head, m.head) (merge-same x n.tail y m.tail e ∙ rw z);
+            goes_on = rw (n.head, m.head) (merge-same x n.tail y m.tail e ∙ rw z);
             written = rw z (sym (list-one (differing x y)));
             ones = rw z;
             twos = rw z;
