@@ -1,16 +1,15 @@
 -- The rule of values: what it comes to in each edition (`specs/Theorems.antt`), and what callers use of it. Assumes nothing.
 use mathlib.Core.Path.{◌≡◌, refl, sym, ap, ◌∙◌}
-use mathlib.Core.Logic.{◌↔◌}
 use mathlib.Core.Bool.{Bool, true, false, cond, not, ◌&&◌, ◌||◌, false≢true, and-true, and-false}
-use Prim.Native.Nat.{ℕ, zero, suc, ◌+◌, ◌*◌, ◌/◌, ◌%◌, ◌≤◌, ◌<◌}
+use Prim.Native.Nat.{ℕ, suc, ◌+◌, ◌*◌, ◌/◌, ◌%◌, ◌≤◌, ◌<◌}
 use native.Mathlib.Nat.{zero-add, mod-one, mul-mod_left, mul-le-mul_right, div-lt_iff_lt-mul, div-add-mod'}
 use native.Mathlib.Omega.{arith}
 use lib.Dec.{eqb, leb, ltb, lit≤}
 use mathlib.Core.List.{List, [], ◌∷◌}
-use borrow.Author.Tests.{leb-true, le-leb, eqb-true, eq-eqb, ne_eqb, ltb-true}
+use borrow.Author.Tests.{leb-true, le-leb, eqb-true, ne_eqb, ltb-true}
 use Rattle.octets.specs.Lists.{every}
 use Rattle.octets.proofs.BoolLaws.{both}
-use Rattle.names.specs.Table.{objects, object_at, missing}
+use Rattle.names.specs.Table.{objects, object_at}
 use Rattle.names.specs.Places.{stp_priority, stp_port_priority, sr_port_largest_frame}
 use Rattle.names.specs.Rule.{old_edition, new_edition, step_in, in_range, in_steps, largest_frames, is_one_of, is_frame, in_frames, takes}
 use Rattle.names.specs.Theorems.{SixteenSteps, NewPriorities, LargestFrames, OthersKeepRanges, OldRanges}
