@@ -1,9 +1,9 @@
 -- Where the refusals of a message stand: at a place where a field's tag is or would be, and not past the end; 8 exactly at a 17th binding. Assumes nothing.
 use Prim.Native.Nat.{ℕ, zero, suc, ◌+◌, ◌≤◌, ◌<◌}
 use native.Mathlib.Omega.{arith}
-use mathlib.Core.Path.{◌≡◌, refl, sym, ap, subst, ◌∙◌}
-use mathlib.Core.Bool.{Bool, true, false, cond, ◌&&◌}
-use mathlib.Core.List.{List, [], ◌∷◌}
+use mathlib.Core.Path.{◌≡◌, refl, sym, subst}
+use mathlib.Core.Bool.{true}
+use mathlib.Core.List.{List}
 use lib.Dec.{leb, eqb}
 use lib.ListN.{length, get_or}
 use borrow.Author.Tests.{leb-true, leb-false, lt-leb, eqb-true}
@@ -15,12 +15,11 @@ use Rattle.message.specs.declared.form.Role.{Role}
 use Rattle.message.specs.declared.form.Role.TheVariants.{Kind, Id, Status, Bind, Name}
 use Rattle.message.specs.declared.form.Checked.{Checked}
 use Rattle.message.specs.declared.request.Head.{Head}
-use Rattle.message.specs.declared.request.Binding.{Binding}
 use Rattle.message.specs.declared.request.BindingRead.{BindingRead}
 use Rattle.message.specs.Form.{field_at, tag_allowed, length_right, field_judged, checked_at, refusal, at_kind_field, at_kind, at_id_field, at_status_field, at_status, at_index, head_size, most_bindings}
 use Rattle.message.specs.Request.{Takes, kind_allowed, status_allowed, status_of, id_of, head_of, content_role, content_in, binding_in, binding_at, binding_tag_at, seventeenth, not_binding, Bindings, ended, all, prepend, binding_then, bindings_from, Reading, refused, message, checked_then, head_then, with_bindings, read_message}
 use Rattle.message.specs.Theorems.{FieldStart, first, behind, enclosed, Placed, RefusedWhere, BindingsTo, Seventeenth, EightExactly}
-use Rattle.message.proofs.FormLaws.{InPlace, Numbered, told, clash, kind_fits, id-fits, status-fits, cond_cases}
+use Rattle.message.proofs.FormLaws.{InPlace, told, kind_fits, id-fits, cond_cases}
 
 -- what a field in its place tells: the refusals of a checked field stand at the field and are 4 to 6, and a field that is found is whole
 abbrev StandsAt : List ℕ → (at end : ℕ) → Checked → Type 0
