@@ -6,7 +6,7 @@ use super::codes::{
     MOST_CASES, STATE_BROKEN, STATE_FAILED, STATE_NOT_RUN, STATE_PASSED, STATE_RUNNING,
 };
 
-#[derive(Drop)]
+#[derive(Clone, Copy, Drop)]
 pub struct Scan {
     // Every record so far is in order and in a known state, and one at most runs.
     pub good: bool,
