@@ -1,5 +1,5 @@
 -- Runs fed with events: what an accepted event does to a legal list, and what it says of each case. Assumes nothing.
-use mathlib.Core.Path.{◌≡◌, refl, sym, ◌∙◌, ap}
+use mathlib.Core.Path.{◌≡◌, refl, sym, ◌∙◌, ap, subst}
 use Prim.Native.Nat.{ℕ, suc, ◌≤◌}
 use native.Mathlib.Omega.{arith}
 use mathlib.Core.Bool.{Bool, true, false, cond, not, ◌||◌, or-true}
@@ -74,7 +74,8 @@ named-states id (c ∷ cs) h =
     by_bool (has_id id c)
     (λ t. let z : count_if (has_id id) cs ≡ 0 = omega (arith, rw t at h) in
     ((λ _. rw t), all_so _ _ (λ d f g. not-both-ways g f) cs (all-false (has_id id) cs (count_none (has_id id) cs z))))
-    (λ t. ((λ g. not-both-ways g t), rw t (named-states id cs (rw t at h))))
+    (λ t. let e : state_of id (c ∷ cs) ≡ state_of id cs = rw t in
+    ((λ g. not-both-ways g t), subst (λ (n : ℕ). All (λ d. has_id id d ≡ true → d.state ≡ n) cs) (sym e) (named-states id cs (rw t at h))))
 
 -- a listed case that is running is among those that run
 pub named-runs : (id : ℕ) (cs : List RbCase) → some_if (has_id id) cs ≡ true → state_of id cs ≡ state_running → some_if running cs ≡ true

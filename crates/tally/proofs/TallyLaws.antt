@@ -7,7 +7,7 @@ use lib.Dec.{eqb}
 use lib.ListN.{length}
 use borrow.Author.Tests.{lt-ltb}
 use Rattle.tally.specs.declared.RbCase.{RbCase}
-use Rattle.tally.specs.Codes.{event_start, accepted}
+use Rattle.tally.specs.Codes.{event_start}
 use Rattle.tally.specs.Run.{count_if, some_if, has_id, running, legal_cases, mark_fits, legal_run, number, state_after, changed, became, feed, report, state_of}
 use Rattle.tally.specs.Scan.{scanned, number_of, plan_of, mark_of, report_of, at_write}
 use Rattle.octets.proofs.BoolLaws.{by_bool, left-of}
