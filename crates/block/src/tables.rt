@@ -17,7 +17,7 @@ use names::Key;
 use names::device::{SOURCE_ROUTING, TRANSPARENT};
 use octets::numbers::{be, be4};
 
-#[derive(Drop)]
+#[derive(Clone, Copy, Drop)]
 pub enum Table {
     Vlan,
     Static,
