@@ -13,7 +13,6 @@ use Rattle.block.specs.Image.{content_of}
 use Rattle.block.specs.Lookup.{Sized, keys_of}
 use Rattle.block.specs.Tables.{Table, vlan, static, pair, rows_of, most, standing}
 use Rattle.block.proofs.RowLaws.{get_d-rows_at, row_inside}
-use Rattle.block.proofs.HalvingLaws.{keys_at}
 use Rattle.block.proofs.ReadLaws.{many-in, keys-are}
 
 -- a table's count stands before its rows, and these in the block; a key stands in its row, and has at most eight octets
