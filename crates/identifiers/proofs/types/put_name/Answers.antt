@@ -1,0 +1,20 @@
+-- `identifiers::types::put_name` meets its contract: three patches, joined by a law. Assumes nothing.
+use mathlib.Core.Path.{◌≡◌}
+use native.Mathlib.Omega.{arith}
+use lib.ListN.{length}
+use Rattle.octets.specs.Parts.{patch}
+use Rattle.names.proofs.InstanceLaws.{name-put}
+use borrow.Author.Rules.{rules}
+use Rattle.identifiers.proofs.types.put_name.Goals as goal
+
+pub put_subids-requires-2 : goal.put_subids-requires-2
+put_subids-requires-2 c =
+    let h : length c.args.o.prefix ≡ 6 = search rules in
+    (omega arith, omega arith)
+
+pub returns : goal.returns
+unfolding patch
+returns c =
+    let a = c.args in
+    let h : length a.o.prefix ≡ 6 = search rules in
+    cc (name-put a.s.now a.at a.o a.key (omega arith) (omega arith))
