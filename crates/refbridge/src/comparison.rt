@@ -20,12 +20,7 @@ pub struct RbWalks {
 }
 
 // Compares the reference's walk with the device's, lists what differs, and tells where the tail of the walk that outlasts the other is.
-#[unsafe(no_mangle)]
-pub extern "C" fn rb_compare_walks<'a>(
-    reference: &'a [u8],
-    device: &'a [u8],
-    list: &mut [u8],
-) -> RbWalks
+pub fn rb_compare_walks<'a>(reference: &'a [u8], device: &'a [u8], list: &mut [u8]) -> RbWalks
     ensures { returned result list.new ≡ compared reference.now device.now list.old }
 {
     let c = compare_walks(reference, device, list);

@@ -9,24 +9,21 @@ use datagram::placing::{RbDatagram, from_datagram};
 use sending::to_datagram;
 
 // Reads a request.
-#[unsafe(no_mangle)]
-pub extern "C" fn rb_from_datagram(datagram: &[u8], room: &mut [u8]) -> RbDatagram
+pub fn rb_from_datagram(datagram: &[u8], room: &mut [u8]) -> RbDatagram
     ensures { given result room.new ≡ from_datagram false room.old datagram.now }
 {
     from_datagram(false, datagram, room)
 }
 
 // Reads a request, or a response that was captured.
-#[unsafe(no_mangle)]
-pub extern "C" fn rb_from_captured(datagram: &[u8], room: &mut [u8]) -> RbDatagram
+pub fn rb_from_captured(datagram: &[u8], room: &mut [u8]) -> RbDatagram
     ensures { given result room.new ≡ from_datagram true room.old datagram.now }
 {
     from_datagram(true, datagram, room)
 }
 
 // Writes a response, with the community that it goes back to.
-#[unsafe(no_mangle)]
-pub extern "C" fn rb_to_datagram(message: &[u8], community: &[u8], room: &mut [u8]) -> RbResult
+pub fn rb_to_datagram(message: &[u8], community: &[u8], room: &mut [u8]) -> RbResult
     ensures { sent_by result room.new ≡ to_datagram room.old community.now message.now }
 {
     let written = to_datagram(message, community, room);

@@ -8,8 +8,7 @@ use message::refusals::BLOCK_NOT_LEGAL;
 use reset::reset;
 
 // Removes the static rows that do not outlast a reset.
-#[unsafe(no_mangle)]
-pub extern "C" fn rb_reset(block: &mut [u8]) -> RbResult
+pub fn rb_reset(block: &mut [u8]) -> RbResult
     ensures { (result.number ≡ reset_number block.old) × (result.count ≡ 0) × (result.offset ≡ 0) × (block.new ≡ reset_block block.old) }
 {
     if !is_legal(block) {

@@ -6,16 +6,14 @@ use super::{RbResult, numbered};
 use console::{RbConsole, reset, take};
 
 // Takes octets of a chunk, up to the end of a message or to a wrong octet.
-#[unsafe(no_mangle)]
-pub extern "C" fn rb_console_take(state: &mut [u8], chunk: &[u8], room: &mut [u8]) -> RbConsole
+pub fn rb_console_take(state: &mut [u8], chunk: &[u8], room: &mut [u8]) -> RbConsole
     ensures { outcome result room.new state.new ≡ taking state.old chunk.now room.old }
 {
     take(state, chunk, room)
 }
 
 // Makes a state fresh.
-#[unsafe(no_mangle)]
-pub extern "C" fn rb_console_reset(state: &mut [u8]) -> RbResult
+pub fn rb_console_reset(state: &mut [u8]) -> RbResult
     ensures { ((result.number, state.new) ≡ resetting state.old) × (result.count ≡ 0) × (result.offset ≡ 0) }
 {
     numbered(reset(state))

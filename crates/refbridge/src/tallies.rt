@@ -1,4 +1,4 @@
-// The run tally's calls: include/refbridge.h declares them. One pass over the list, then functions on numbers, then at most one state written.
+// The run tally's calls. One pass over the list, then functions on numbers, then at most one state written.
 ghost use Rattle.std.specs.Prelude.{◌≡◌};
 ghost use Rattle.tally.specs.Run.{feed, report};
 ghost use Rattle.refbridge.specs.Tallies.{fed_by};
@@ -18,13 +18,7 @@ fn event_result(p: Plan) -> RbResult
 }
 
 // Feeds one event to a run.
-#[unsafe(no_mangle)]
-pub extern "C" fn rb_tally_event(
-    cases: &mut [RbCase],
-    ended: &mut u8,
-    event: u32,
-    id: u32,
-) -> RbResult
+pub fn rb_tally_event(cases: &mut [RbCase], ended: &mut u8, event: u32, id: u32) -> RbResult
     ensures { (fed_by result cases.new ended.new ≡ feed cases.old ended.old event id) × (result.count ≡ 0) × (result.offset ≡ 0) }
 {
     let s = scan(cases, id);
@@ -34,8 +28,7 @@ pub extern "C" fn rb_tally_event(
 }
 
 // Reports how many cases of a run are in each class.
-#[unsafe(no_mangle)]
-pub extern "C" fn rb_tally_report(cases: &[RbCase], ended: u8) -> RbReport
+pub fn rb_tally_report(cases: &[RbCase], ended: u8) -> RbReport
     ensures { result ≡ report cases.now ended }
 {
     reported(scan(cases, 0), ended)
