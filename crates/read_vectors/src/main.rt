@@ -4,12 +4,11 @@
 
 ghost use Rattle.std.specs.Prelude.{◌+◌, ◌*◌, ◌<◌, ◌≤◌, length};
 
-use io::{print_decimal, write_all};
-use libc::STDOUT_FILENO;
 use message::form::Refusal;
 use message::reader::request_of;
 use message::request::RequestOutcome;
 use octets::parts::copy_in;
+use std::io;
 
 // The get of paper 01's first case: NumPorts, id 7.
 const GET: [u8; 65] = [
@@ -26,50 +25,49 @@ const SET: [u8; 56] = [
 
 const VALUES: [u8; 15] = [0, 1, 2, 3, 4, 8, 16, 17, 32, 33, 34, 36, 37, 48, 255];
 
-fn say(text: &[u8]) {
-    write_all(STDOUT_FILENO, text);
+fn say(rt: &impl Print, text: &str) -> io::Result<()> {
+    rt.print(text)
 }
 
-fn say_number(n: u64) {
-    say(b" ");
-    print_decimal(STDOUT_FILENO, n);
+fn say_number(rt: &impl Print, n: u64) -> io::Result<()> {
+    print!(rt; " {n}")
 }
 
-fn say_refusal(r: Refusal) {
-    say(b"refused");
-    say_number(r.number as u64);
-    say_number(r.at as u64);
+fn say_refusal(rt: &impl Print, r: Refusal) -> io::Result<()> {
+    say(rt, "refused")?;
+    say_number(rt, r.number as u64)?;
+    say_number(rt, r.at as u64)
 }
 
 // What the reading of a request gives, on a line.
-fn say_reading(s: &[u8]) {
+fn say_reading(rt: &impl Print, s: &[u8]) -> io::Result<()> {
     let r = request_of(s);
     let outcome = r.outcome;
     match outcome {
-        RequestOutcome::Refused(f) => say_refusal(f),
+        RequestOutcome::Refused(f) => say_refusal(rt, f)?,
         RequestOutcome::Read { kind, id, count } => {
-            say(b"read");
-            say_number(kind as u64);
-            say_number(id as u64);
-            say_number(count as u64);
+            say(rt, "read")?;
+            say_number(rt, kind as u64)?;
+            say_number(rt, id as u64)?;
+            say_number(rt, count as u64)?;
         }
     }
-    say(b"\n");
+    say(rt, "\n")
 }
 
 // The request cut at every length.
-fn cut(s: &[u8]) {
+fn cut(rt: &impl Print, s: &[u8]) -> io::Result<()> {
     let n = s.len();
     let mut i = 0;
     while i < n {
-        say_reading(&s[..i]);
+        say_reading(rt, &s[..i])?;
         i += 1;
     }
-    say_reading(s);
+    say_reading(rt, s)
 }
 
 // The request with other values in the octet at p, which gets its own back.
-fn change_at(s: &mut [u8], p: usize)
+fn change_at(rt: &impl Print, s: &mut [u8], p: usize) -> io::Result<()>
     requires { p < length s.old }
 {
     let values = VALUES;
@@ -77,23 +75,25 @@ fn change_at(s: &mut [u8], p: usize)
     let mut i = 0;
     while i < 15 {
         s[p] = values[i];
-        say_reading(s);
+        say_reading(rt, s)?;
         i += 1;
     }
     s[p] = own;
+    Ok(())
 }
 
-fn change(s: &mut [u8]) {
+fn change(rt: &impl Print, s: &mut [u8]) -> io::Result<()> {
     let n = s.len();
     let mut p = 0;
     while p < n {
-        change_at(s, p);
+        change_at(rt, s, p)?;
         p += 1;
     }
+    Ok(())
 }
 
 // A get with k bindings, each that of the first case.
-fn many(k: usize)
+fn many(rt: &impl Print, k: usize) -> io::Result<()>
     requires { k ≤ 18 }
 {
     let get = GET;
@@ -104,23 +104,24 @@ fn many(k: usize)
         copy_in(&mut s, 16 + 49 * i, &get[16..]);
         i += 1;
     }
-    say_reading(&s[..16 + 49 * k]);
+    say_reading(rt, &s[..16 + 49 * k])
 }
 
-fn many_all() {
+fn many_all(rt: &impl Print) -> io::Result<()> {
     let mut k = 0;
     while k <= 18 {
-        many(k);
+        many(rt, k)?;
         k += 1;
     }
+    Ok(())
 }
 
-fn main() {
+fn main(rt: HostRuntime) -> io::Result<()> {
     let mut get = GET;
     let mut set = SET;
-    cut(&get);
-    change(&mut get);
-    cut(&set);
-    change(&mut set);
-    many_all();
+    cut(&rt, &get)?;
+    change(&rt, &mut get)?;
+    cut(&rt, &set)?;
+    change(&rt, &mut set)?;
+    many_all(&rt)
 }
