@@ -1,0 +1,11 @@
+-- `instances::shape_of` meets its contract. Assumes nothing.
+use Rattle.instances.proofs.shape_of.Goals as goal
+
+pub returns-in-Vlan : goal.returns-in-Vlan
+returns-in-Vlan c = rw c.in-Vlan.is
+
+pub returns-in-Static : goal.returns-in-Static
+returns-in-Static c = rw c.in-Static.is
+
+pub returns-in-Pair : goal.returns-in-Pair
+returns-in-Pair c = rw c.in-Pair.is
