@@ -25,7 +25,7 @@ const REFERENCE_AT: usize = 4;
 const DEVICE_AT: usize = 12;
 
 // The entry that is found, kind 0 for none, and where the reference's and the device's walk go on.
-#[derive(Drop)]
+#[derive(Clone, Copy, Drop)]
 pub struct Turn {
     pub kind: u8,
     pub ours: u8,
