@@ -13,7 +13,7 @@ use Rattle.message.specs.Request.{binding_at}
 use Rattle.message.specs.declared.form.Refusal.{Refusal}
 use Rattle.message.specs.declared.request.Binding.{Binding}
 use Rattle.message.specs.declared.request.BindingRead.{BindingRead}
-use Rattle.message.proofs.BindingLaws.{BindingTells, stands}
+use Rattle.message.proofs.BindingLaws.{stands}
 use Rattle.walks.specs.declared.walk.WalkJudged.{WalkJudged}
 use Rattle.walks.specs.Walk.{Item, item, name_of, Walk, faulty, whole, item_before, item_then, not_ascending, walk_from, walk_of, walk_judged}
 
