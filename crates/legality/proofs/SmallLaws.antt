@@ -95,13 +95,13 @@ every-small o d e xs = λ z. every (λ v. same v z) xs
 pub every-unstepped : (s : ℕ) → s ≡ 1 → (xs : List ℕ) → every (in_steps s) xs ≡ true
 unfolding every
 every-unstepped s e [] = refl
-every-unstepped s e (x ∷ xs) = rw (e, step-one x) (rw e at (every-unstepped s e xs))
+every-unstepped s e (x ∷ xs) = rw (e, step-one x) (every-unstepped s e xs)
 
 -- an object that takes other numbers than the largest frames leaves nothing to test
 pub every-unframed : (o : ObjectType) → o.frames ≡ false → (xs : List ℕ) → every (in_frames o) xs ≡ true
 unfolding every
 every-unframed o e [] = refl
-every-unframed o e (x ∷ xs) = rw e (rw e at (every-unframed o e xs))
+every-unframed o e (x ∷ xs) = rw e (every-unframed o e xs)
 
 -- and one that takes these alone has the test of a frame
 pub every-framed : (o : ObjectType) → o.frames ≡ true → (xs : List ℕ) → every (in_frames o) xs ≡ every is_frame xs
