@@ -35,7 +35,7 @@ use names::places::{
 use octets::ports::are_disjoint;
 
 // Egress and Forbidden of a VLAN row that may be there.
-#[derive(Drop)]
+#[derive(Clone, Copy, Drop)]
 pub struct Sets {
     pub there: bool,
     pub egress: u64,
@@ -43,7 +43,7 @@ pub struct Sets {
 }
 
 // What a binding does to the row that it names: its status makes the row, or removes it, or it writes another column.
-#[derive(Drop)]
+#[derive(Clone, Copy, Drop)]
 pub enum Act {
     Makes,
     Removes,
@@ -51,7 +51,7 @@ pub enum Act {
 }
 
 // Whether each growing table would have more rows than there is room for.
-#[derive(Drop)]
+#[derive(Clone, Copy, Drop)]
 pub struct Full {
     pub vlans: bool,
     pub statics: bool,

@@ -21,7 +21,7 @@ use values::tag_of;
 
 // A binding judged by itself: its fault, or 0; the place of its object type, its key, the number or port set of its content, and where that content stands.
 // Sixteen of them are kept and passed on, so the fields are no wider than what they hold: 24 octets.
-#[derive(Drop)]
+#[derive(Clone, Copy, Drop)]
 pub struct Kept {
     pub fault: u8,
     pub place: u8,
@@ -42,7 +42,7 @@ const NOTHING_KEPT: Kept = Kept {
 };
 
 // What a content says to an object: a fault, or a number or port set.
-#[derive(Drop)]
+#[derive(Clone, Copy, Drop)]
 pub struct Said {
     pub fault: u8,
     pub value: u64,
