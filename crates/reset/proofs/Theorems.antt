@@ -3,19 +3,18 @@ use Prim.Native.Nat.{ℕ}
 use native.Mathlib.Omega.{arith}
 use mathlib.Core.Path.{◌≡◌, refl, sym, ap, ◌∙◌}
 use mathlib.Core.Bool.{Bool, true, false, cond}
-use mathlib.Core.Option.{Option, none, some}
+use mathlib.Core.Option.{none, some}
 use mathlib.Core.List.{List, [], ◌∷◌}
 use lib.Dec.{eqb}
-use lib.ListN.{length}
 use borrow.Author.Tests.{eqb-true}
 use Rattle.names.specs.Index.{can_have, index}
 use Rattle.names.specs.declared.Shape.TheVariants.{Static}
-use Rattle.octets.specs.Ascending.{All, Rising}
+use Rattle.octets.specs.Ascending.{Rising}
 use Rattle.names.specs.declared.model.Model.{Model}
 use Rattle.block.specs.Content.{Content, with_statics, model_of}
 use Rattle.block.specs.Image.{image, content_of}
 use Rattle.block.specs.Lookup.{keys_of, lookup}
-use Rattle.block.specs.Valid.{rows_ok, static_ok, valid, legal}
+use Rattle.block.specs.Valid.{static_ok, valid, legal}
 use Rattle.block.specs.declared.rows.StaticRow.{StaticRow}
 use Rattle.block.specs.declared.tables.Table.TheVariants.{Static as static}
 use Rattle.block.proofs.ValidParts.{Valid, valid-parts}

@@ -1,7 +1,6 @@
 -- What is proved of a reset, for readers; `proofs/Theorems.antt` proves each statement. Assumes nothing.
-use Rattle.std.specs.Prelude.{ℕ, ◌≡◌, true, false, cond, List}
+use Rattle.std.specs.Prelude.{ℕ, ◌≡◌, true, cond, List}
 use Rattle.std.proofs.Math.Option.{Option, none, some}
-use Rattle.block.specs.Content.{Content}
 use Rattle.block.specs.Image.{content_of}
 use Rattle.block.specs.Lookup.{lookup}
 use Rattle.block.specs.Valid.{legal}
