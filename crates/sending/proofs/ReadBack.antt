@@ -21,7 +21,6 @@ use Rattle.message.specs.Request.{kind_allowed, status_allowed, content_role}
 use Rattle.message.specs.Answer.{Bound, bound, most_octets}
 use Rattle.message.specs.Theorems as form
 use Rattle.message.proofs.FormLaws.{clash}
-use Rattle.ber.specs.declared.PartRead.{PartRead}
 use Rattle.ber.specs.declared.PartRead.TheVariants.{At}
 use Rattle.datagram.specs.declared.reading.Opening.{Opening}
 use Rattle.datagram.specs.declared.reading.PduHead.{PduHead}

@@ -10,7 +10,7 @@ use Rattle.octets.proofs.BoolLaws.{left-of}
 use Rattle.message.specs.declared.form.Refusal.{Refusal}
 use Rattle.message.specs.declared.request.Binding.{Binding}
 use Rattle.message.specs.declared.request.BindingRead.{BindingRead}
-use Rattle.message.specs.Form.{refusal, checked_at, length_right}
+use Rattle.message.specs.Form.{checked_at, length_right}
 use Rattle.message.specs.declared.form.Checked.{Checked}
 use Rattle.message.specs.declared.form.Role.TheVariants.{Name}
 use Rattle.message.proofs.FormLaws.{told}

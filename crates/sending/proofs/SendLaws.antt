@@ -23,7 +23,7 @@ use Rattle.message.specs.declared.form.Checked.{Checked}
 use Rattle.message.specs.declared.request.Head.{Head}
 use Rattle.message.specs.declared.request.Binding.{Binding}
 use Rattle.message.specs.declared.request.BindingRead.{BindingRead}
-use Rattle.message.specs.Form.{field_at, tag_allowed, length_right, refusal, field_judged, checked_at, at_kind_field, at_kind, at_id_field, at_status_field, head_size, most_bindings}
+use Rattle.message.specs.Form.{field_at, tag_allowed, length_right, field_judged, checked_at, at_kind_field, at_kind, at_id_field, at_status_field, head_size, most_bindings}
 use Rattle.message.specs.Request.{checked_then, status_allowed, status_of, id_of, content_role, content_in, binding_tag_at, not_binding, seventeenth, Bindings, ended, all, prepend, binding_then, no_binding, with_bindings}
 use Rattle.message.specs.Answer.{Bound, most_octets, bound_at}
 use Rattle.message.proofs.FormLaws.{InPlace, told, cond_cases, clash}

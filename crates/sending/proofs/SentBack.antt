@@ -1,5 +1,5 @@
 -- A message that is sent and read back is the same, octet by octet (`SentReadsBack` of specs/Theorems): a response that was read is its own octets. Assumes nothing.
-use Prim.Native.Nat.{ℕ, zero, suc, ◌+◌, ◌-◌, ◌^◌, ◌≤◌, ◌<◌}
+use Prim.Native.Nat.{ℕ, zero, suc, ◌+◌, ◌^◌, ◌≤◌, ◌<◌}
 use mathlib.Core.Path.{◌≡◌, refl, sym, ap, subst, ◌∙◌}
 use mathlib.Core.Bool.{Bool, true, false, cond}
 use mathlib.Core.List.{List, [], ◌∷◌, ◌++◌, map, append_assoc}
@@ -27,7 +27,7 @@ use Rattle.message.proofs.FormLaws.{InPlace, told, cond_cases, clash}
 use Rattle.message.proofs.AnswerLaws.{length-field}
 use Rattle.message.proofs.BindingLaws.{name-length}
 use Rattle.datagram.specs.Reading.{handed}
-use Rattle.sending.specs.Writing.{name_written, response_in, response_at, responses_from, response_head, read_response, datagram_octets, sent, sent_by, to_datagram}
+use Rattle.sending.specs.Writing.{name_written, response_in, response_at, responses_from, response_head, read_response, datagram_octets, sent_by, to_datagram}
 use Rattle.sending.specs.Theorems.{Carried, AllCarried, SentReadsBack}
 use Rattle.datagram.proofs.PlaceLaws.{call-read}
 use Rattle.sending.proofs.SendLaws.{checked-cases}
