@@ -5,7 +5,7 @@ ghost use Rattle.console.specs.Batch.{most_frames, octets_at, frames_of, Means, 
 use super::header::{HEADER_OCTETS, HEADER_WRONG, read_header};
 
 // Where a message stands in a batch.
-#[derive(Drop)]
+#[derive(Clone, Copy, Drop)]
 pub struct Span {
     pub start: usize,
     pub len: usize,
