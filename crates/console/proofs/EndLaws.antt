@@ -9,7 +9,7 @@ use lib.ListN.{length, drop, length-append, length-drop}
 use borrow.Author.Tests.{ltb-true, eqb-true}
 use Rattle.octets.proofs.BoolLaws.{both}
 use Rattle.message.specs.Answer.{most_octets}
-use Rattle.console.specs.Frames.{Frame, Step, inside, wrong, run}
+use Rattle.console.specs.Frames.{Frame, inside, wrong, run}
 use Rattle.console.specs.State.{Saved, going, ended, saved, resumed, image, sound}
 use Rattle.console.specs.Calls.{ConsoleOutcome, told, taking}
 use Rattle.console.specs.Streams.{Heard, silent, adding, again, Session, over, call, AllOctets}

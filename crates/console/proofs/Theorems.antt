@@ -1,12 +1,11 @@
 -- The statements of `specs/Theorems.antt`, proved. Assumes nothing.
 use mathlib.Core.Path.{◌≡◌, refl, sym, ap, ◌∙◌}
 use mathlib.Core.Bool.{Bool, true, false, cond}
-use mathlib.Core.Logic.{◌↔◌}
 use mathlib.Core.List.{List, [], ◌∷◌, ◌++◌, map, flatten, append-nil}
 use Prim.Native.Nat.{ℕ, zero, suc, ◌+◌, ◌*◌, ◌≤◌, ◌<◌}
 use native.Mathlib.Omega.{arith}
 use lib.Dec.{ltb}
-use lib.ListN.{length, take, drop, get_or}
+use lib.ListN.{length, take, get_or}
 use lib.Seq.{drop_at}
 use borrow.Author.Tests.{ltb-true, ltb-false, ne_eqb, lt-ltb}
 use Rattle.octets.specs.Numbers.{be_octets}
@@ -17,7 +16,7 @@ use Rattle.console.specs.Frames.{mark, frame, fresh, Step, inside, whole, wrong,
 use Rattle.console.specs.State.{Saved, going, ended, saved, resumed, image, saved_of, sound, is_left, state_size}
 use Rattle.console.specs.Calls.{ConsoleOutcome, refused, told, taking}
 use Rattle.console.specs.Positions.{front}
-use Rattle.console.specs.Streams.{Heard, noted, again, Session, over, call, hears, AllOctets}
+use Rattle.console.specs.Streams.{Heard, noted, Session, over, call, hears, AllOctets}
 use Rattle.console.specs.Theorems.{CuttingLaw, HostsLaw, ChunksLaw, SessionsEnd, StaysLeft, StreamLeaves, LeftExactly, ShortRoom, BadState, KeepsRoom, Repeats, FirstWrongOctet, FifthOctet, FreshIsZero, FramedLaw, BatchHeard}
 use Rattle.console.proofs.RunLaws.{run-wrong}
 use Rattle.console.proofs.HeaderLaws.{headed}
