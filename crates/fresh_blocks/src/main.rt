@@ -4,38 +4,38 @@
 ghost use Rattle.std.specs.Prelude.{◌+◌, ◌≤◌, length};
 
 use changes::setup::set_up;
-use io::{print_decimal, print_hex, write_all};
-use libc::STDOUT_FILENO;
 use names::device::{SOURCE_ROUTING, TRANSPARENT};
 use names::model::Model;
 use names::rule::OLD_EDITION;
 use octets::parts::all_zero;
+use std::io;
 
 // The 16 octets from index at on.
-fn say_line(block: &[u8], at: usize)
+fn say_line(rt: &impl Print, block: &[u8], at: usize) -> io::Result<()>
     requires { at + 16 ≤ length block.now }
 {
-    print_decimal(STDOUT_FILENO, at as u64);
-    write_all(STDOUT_FILENO, b": ");
+    print!(rt; "{at}: ")?;
     let mut i = 0;
     while i < 16 {
-        print_hex(STDOUT_FILENO, block[at + i] as u64, 2);
+        let octet = block[at + i];
+        print!(rt; "{octet:02x}")?;
         i += 1;
     }
-    write_all(STDOUT_FILENO, b"\n");
+    println!(rt;)
 }
 
-fn say_block(block: &[u8]) {
+fn say_block(rt: &impl Print, block: &[u8]) -> io::Result<()> {
     let mut at = 0;
     while at + 16 <= block.len() {
         if !all_zero(block, at, 16) {
-            say_line(block, at);
+            say_line(rt, block, at)?;
         }
         at += 16;
     }
+    Ok(())
 }
 
-fn show(n: u32, device: u32) {
+fn show(rt: &impl Print, n: u32, device: u32) -> io::Result<()> {
     let mut block = [255u8; 32768];
     let address = [2u8, 0, 94, 16, 0, 1];
     let model = Model {
@@ -44,20 +44,16 @@ fn show(n: u32, device: u32) {
         device: device,
     };
     set_up(&mut block, model, &address);
-    write_all(STDOUT_FILENO, b"ports ");
-    print_decimal(STDOUT_FILENO, n as u64);
-    write_all(STDOUT_FILENO, b" device ");
-    print_decimal(STDOUT_FILENO, device as u64);
-    write_all(STDOUT_FILENO, b"\n");
-    say_block(&block);
+    println!(rt; "ports {n} device {device}")?;
+    say_block(rt, &block)
 }
 
-fn main() {
-    show(1, TRANSPARENT);
-    show(8, TRANSPARENT);
-    show(9, TRANSPARENT);
-    show(63, TRANSPARENT);
-    show(64, TRANSPARENT);
-    show(1, SOURCE_ROUTING);
-    show(64, SOURCE_ROUTING);
+fn main(rt: HostRuntime) -> io::Result<()> {
+    show(&rt, 1, TRANSPARENT)?;
+    show(&rt, 8, TRANSPARENT)?;
+    show(&rt, 9, TRANSPARENT)?;
+    show(&rt, 63, TRANSPARENT)?;
+    show(&rt, 64, TRANSPARENT)?;
+    show(&rt, 1, SOURCE_ROUTING)?;
+    show(&rt, 64, SOURCE_ROUTING)
 }
