@@ -20,7 +20,6 @@ use Rattle.message.specs.declared.form.Field.TheVariants.{Cut, Whole}
 use Rattle.message.specs.declared.request.Binding.{Binding}
 use Rattle.message.specs.Form.{tag_allowed}
 use Rattle.message.specs.Request.{content_role}
-use Rattle.message.specs.Answer.{Bound}
 use Rattle.message.proofs.FormLaws.{clash, cond_cases}
 use Rattle.ber.specs.declared.PartRead.{PartRead}
 use Rattle.ber.specs.declared.PartRead.TheVariants.{Refused, At}
