@@ -47,7 +47,7 @@ contents_ok-requires c =
 pub returns : goal.returns
 returns c =
     rw (
-      legal-tests c.args.block.now (λ i. omega (arith, c.shared_slice_known-1.given i)) c.if-block-ne-BLOCK_SIZE.false (roomy-is c.before.before),
+      legal-tests c.args.block.now (λ i. omega (arith, c.type_inv.block i)) c.if-block-ne-BLOCK_SIZE.false (roomy-is c.before.before),
       ← model_is c.before.before.before.before.before.before.before,
       c.if-not-is_model.false,
       ← c.model-m.ensures,
