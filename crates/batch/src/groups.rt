@@ -16,13 +16,13 @@ use names::table::OBJECT_COUNT;
 use names::targets::{Target, group_of};
 
 // A row or scalar that is named: its group, as the place of its first object, and its key; the group NOTHING where none is named.
-#[derive(Drop)]
+#[derive(Clone, Copy, Drop)]
 pub struct NamedGroup {
     pub table: usize,
     pub key: u64,
 }
 
-#[derive(Drop)]
+#[derive(Clone, Copy, Drop)]
 pub struct NamedGroups {
     pub count: usize,
     pub all: [NamedGroup; 16],
