@@ -1,9 +1,8 @@
 -- The batches of specs/Example, computed. Assumes nothing.
-use Prim.Native.Nat.{ℕ, ◌≤◌}
-use native.Mathlib.Omega.{arith}
+use Prim.Native.Nat.{ℕ}
 use mathlib.Core.Path.{◌≡◌, refl, sym, ap, subst, ◌∙◌}
 use mathlib.Core.Bool.{true}
-use mathlib.Core.List.{List, [], ◌∷◌, ◌++◌, map}
+use mathlib.Core.List.{List, [], ◌∷◌, ◌++◌}
 use lib.Dec.{lit≤}
 use lib.ListN.{length, replicate}
 use Rattle.octets.specs.Numbers.{be_at, be_octets}
@@ -19,14 +18,14 @@ use Rattle.block.specs.Cells.{cells_in}
 use Rattle.block.specs.Lookup.{lookup, active_vlans}
 use Rattle.block.specs.Alter.{alter}
 use Rattle.block.specs.Fresh.{times, fresh_column, fresh_columns, fresh_vlan, fresh}
-use Rattle.block.specs.Image.{fit_to, image, content_of}
+use Rattle.block.specs.Image.{fit_to, image}
 use Rattle.block.specs.Valid.{every, is_octet, port_set, static_ok, pair_ok, rows_ok, valid}
 use Rattle.block.proofs.RoundLaws.{content_of-image, legal-image}
 use Rattle.block.proofs.FreshLaws.{valid-fresh}
 use Rattle.block.specs.declared.tables.Table.TheVariants.{Static as statics, Pair as pair}
 use Rattle.block.proofs.KeepLaws.{valid-rows}
 use Rattle.message.specs.Form.{field_at, tag_allowed, content_length, length_right, field_judged, checked_at}
-use Rattle.message.specs.Request.{kind_allowed, status_allowed, status_of, id_of, head_of, content_role, content_in, binding_in, binding_at, binding_tag_at, seventeenth, bindings_from, read_message, read_request}
+use Rattle.message.specs.Request.{kind_allowed, status_allowed, status_of, id_of, head_of, content_role, content_in, binding_in, binding_at, binding_tag_at, seventeenth, bindings_from, read_message}
 use Rattle.message.specs.Answer.{head_octets, binding_octets, bindings_octets, message_octets}
 use Rattle.answer.specs.Values.{values}
 use Rattle.answer.specs.Get.{elem, get}
@@ -35,7 +34,7 @@ use Rattle.answer.specs.Judge.{Asked, content_said, alone, among as named_before
 use Rattle.answer.specs.Set.{gather, row_fault, first_fault, verdict, set_cells, apply, after}
 use Rattle.answer.specs.Cases.{four_ports, under, of_vlan, of_static, egress, row_status, static_status, priority, get_of, set_of}
 use Rattle.answer.proofs.EchoTheorem.{octets-every}
-use Rattle.answer.proofs.Cases.{says, leaves, accepted as free, vlans_to, statics_to, filled, crowded, Room, room}
+use Rattle.answer.proofs.Cases.{says, leaves, accepted as free, vlans_to, statics_to, filled, crowded, room}
 use Rattle.answer.specs.Terms.{absent}
 use Rattle.console.specs.Frames.{frame, arrived, sized, step, run}
 use Rattle.console.specs.Batch.{most_frames, led, frames_of}

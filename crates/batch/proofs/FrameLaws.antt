@@ -18,7 +18,7 @@ use Rattle.console.specs.Frames.{mark, frame, Frame, heading, filling, fresh, St
 use Rattle.console.specs.Batch.{most_frames, led, frames_of}
 use Rattle.console.specs.Streams.{AllOctets}
 use Rattle.console.proofs.FramedLaws.{frame-run, length-frame}
-use Rattle.batch.specs.Theorems.{framed, InFrames, FramesExactly}
+use Rattle.batch.specs.Theorems.{framed, FramesExactly}
 
 -- a message that a frame can hold
 abbrev pub Framed : List ℕ → Type 0

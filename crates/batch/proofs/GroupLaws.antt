@@ -1,5 +1,5 @@
 -- What the code's groups say of the names of a message. Assumes nothing.
-use Prim.Native.Nat.{ℕ, zero, suc, ◌+◌, ◌-◌, ◌≤◌, ◌<◌}
+use Prim.Native.Nat.{ℕ, zero, suc, ◌+◌, ◌≤◌, ◌<◌}
 use native.Mathlib.Omega.{arith}
 use native.Mathlib.Numerals.{add-one}
 use mathlib.Core.Path.{◌≡◌, refl, sym, ap, ◌∙◌}
@@ -14,14 +14,13 @@ use Rattle.names.specs.declared.model.Model.{Model}
 use Rattle.names.specs.Table.{object_count}
 use Rattle.names.specs.Groups.{table_of}
 use Rattle.names.proofs.GroupLaws.{table_below}
-use Rattle.octets.proofs.BoolLaws.{by_bool, both}
+use Rattle.octets.proofs.BoolLaws.{by_bool}
 use Rattle.message.specs.declared.form.Refusal.{Refusal}
 use Rattle.message.specs.declared.request.Head.{Head}
 use Rattle.message.specs.declared.request.Binding.{Binding}
 use Rattle.message.specs.declared.request.BindingRead.{BindingRead}
 use Rattle.message.specs.Request.{requests, head_of, binding_at, seventeenth, Bindings, ended, all, prepend, bindings_from, Reading, refused, message, read_message, read_request}
 use Rattle.message.proofs.FormLaws.{clash}
-use Rattle.message.proofs.BindingLaws.{BindingTells}
 use Rattle.answer.specs.Judge.{Asked, group_of}
 use Rattle.answer.specs.Terms.{asked_in, is_set}
 use Rattle.answer.specs.Respond.{asked_at}

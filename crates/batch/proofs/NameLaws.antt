@@ -1,22 +1,21 @@
 -- What two messages name in common, and the keys that a batch names in a table. Assumes nothing.
-use Prim.Native.Nat.{ℕ, ◌+◌}
-use native.Mathlib.Omega.{arith}
+use Prim.Native.Nat.{ℕ}
 use mathlib.Core.Path.{◌≡◌, refl, sym, ap, ◌∙◌}
-use mathlib.Core.Bool.{Bool, true, false, cond, ◌||◌, true≢false, false≢true}
+use mathlib.Core.Bool.{Bool, true, false, ◌||◌, true≢false, false≢true}
 use mathlib.Core.Option.{Option, none, some}
 use mathlib.Core.List.{List, [], ◌∷◌, ◌++◌, map}
 use lib.Dec.{eqb}
 use borrow.Author.Tests.{eqb-true, eq-eqb}
-use Rattle.octets.proofs.BoolLaws.{by-eq, by_bool, both}
+use Rattle.octets.proofs.BoolLaws.{by_bool, both}
 use Rattle.names.specs.declared.model.Model.{Model}
 use Rattle.answer.specs.Get.{elem}
 use Rattle.answer.specs.Tables.{first_column}
-use Rattle.answer.specs.Judge.{Asked, Judged, group_named, group_of, judged}
+use Rattle.answer.specs.Judge.{Judged, group_named}
 use Rattle.block.specs.declared.tables.Table.{Table}
 use Rattle.answer.specs.Terms.{onto, indices, Separate, named_in, asked_of, named_by}
 use Rattle.answer.proofs.RoomLaws.{or_right}
 use Rattle.answer.proofs.JudgeLaws.{judged-groups}
-use Rattle.batch.specs.Names.{Group, groups_of, same_group, among, common, keys_at, all_named}
+use Rattle.batch.specs.Names.{Group, groups_of, same_group, among, common, keys_at}
 
 or_cases : {C : Type 0} (a b : Bool) → (a || b) ≡ true → (a ≡ true → C) → (b ≡ true → C) → C
 or_cases true b e f g = f refl

@@ -1,8 +1,8 @@
 -- Rows of the growing tables, and the absent ones that the messages name. Assumes nothing.
-use Prim.Native.Nat.{ℕ, zero, suc, ◌+◌, ◌≤◌, ◌<◌}
+use Prim.Native.Nat.{ℕ, suc, ◌+◌, ◌≤◌, ◌<◌}
 use native.Mathlib.Omega.{arith}
 use mathlib.Core.Path.{◌≡◌, refl, sym, ap, ◌∙◌}
-use mathlib.Core.Bool.{Bool, true, false, cond, not, ◌||◌, ◌&&◌, true≢false}
+use mathlib.Core.Bool.{Bool, true, false, cond, not, ◌||◌, true≢false}
 use mathlib.Core.Option.{Option, none, some}
 use mathlib.Core.List.{List, [], ◌∷◌, ◌++◌, map}
 use lib.Dec.{eqb}
@@ -18,23 +18,22 @@ use Rattle.block.proofs.StandingLaws.{stands}
 use Rattle.block.proofs.RoundLaws.{legal-valid}
 use Rattle.answer.specs.Get.{elem}
 use Rattle.answer.specs.Writes.{present}
-use Rattle.block.specs.Tables.{rows_of, most}
+use Rattle.block.specs.Tables.{rows_of}
 use Rattle.block.specs.declared.tables.Table.{Table}
 use Rattle.block.specs.declared.tables.Table.TheVariants.{Vlan as vlan, Static as static, Pair as pair}
 use Rattle.answer.specs.Tables.{first_column}
 use Rattle.answer.proofs.StoredLaws.{elem-present}
 use Rattle.answer.specs.Terms.{onto, absent}
-use Rattle.answer.proofs.RoomLaws.{elem-not-head, elem-not-tail}
 use Rattle.answer.proofs.KeepValid.{valid-few}
 use Rattle.console.specs.Batch.{octets_at, Means}
 use Rattle.console.specs.declared.frames.Span.{Span}
 use Rattle.console.specs.declared.frames.Framed.{Framed}
-use Rattle.batch.specs.Names.{Group, groups_of, same_group, among, common, keys_at, all_named}
+use Rattle.batch.specs.Names.{Group, groups_of, among, common, keys_at, all_named}
 use Rattle.batch.specs.Found.{meant, no_group, groups, Few, named_from, SetsFrom, absent_each}
 use Rattle.batch.specs.declared.groups.NamedGroup.{NamedGroup}
 use Rattle.batch.specs.declared.groups.NamedGroups.{NamedGroups}
 use Rattle.batch.proofs.NameLaws.{common-of, keys-append}
-use Rattle.batch.proofs.PairLaws.{Named, Meets, NoneMeet}
+use Rattle.batch.proofs.PairLaws.{Named, NoneMeet}
 use Rattle.batch.proofs.TurnLaws.{named-turn, named_end}
 use Rattle.batch.proofs.GroupLaws.{drop-turn, drop-end}
 

@@ -11,7 +11,6 @@ use Rattle.block.specs.declared.rows.PairRow.{PairRow}
 use Rattle.answer.specs.Judge.{Asked}
 use Rattle.answer.specs.Cases.{four_ports, asked, egress, row_status, static_status, priority, get_of, set_of}
 use Rattle.console.specs.Batch.{most_frames}
-use Rattle.batch.specs.declared.RbBatch.{RbBatch}
 use Rattle.batch.specs.Order.{Call, Plays, SameInAll}
 use Rattle.batch.specs.Check.{accepted, offending, short_of, refused_with, check_batch}
 use Rattle.batch.specs.Theorems.{framed}

@@ -1,5 +1,5 @@
 -- What the messages of a batch name (paper 02, E10: "no two name a common row or scalar (timers as in E6)"). Assumes nothing.
-use Rattle.std.specs.Prelude.{ℕ, suc, Bool, false, cond, ◌||◌, ◌&&◌, List, [], ◌∷◌, ◌++◌, map, eqb}
+use Rattle.std.specs.Prelude.{ℕ, Bool, false, ◌||◌, ◌&&◌, List, [], ◌∷◌, ◌++◌, map, eqb}
 use Rattle.std.proofs.Math.Option.{Option, none, some}
 use Rattle.names.specs.declared.model.Model.{Model}
 use Rattle.answer.specs.Judge.{Asked, group_of}
