@@ -1,0 +1,49 @@
+-- `verdict::faults::row_fault` meets its contract: the status column's number, Egress and Forbidden, and the other columns. Assumes nothing.
+use mathlib.Core.Path.{sym, ◌∙◌}
+use Rattle.verdict.proofs.faults.StatusLaws.{makes-row, removes-row, fills-row, present-key}
+use Rattle.verdict.proofs.faults.FaultLaws.{status-fault, attribute-fault, clash-at}
+use Rattle.verdict.proofs.faults.row_fault.Goals as goal
+
+pub returns-then-place-status_place : goal.returns-then-place-status_place
+returns-then-place-status_place c s g =
+    rw (
+      status-fault _ _ _ _ _ _ _ _ _ (c.if-place-status_place.true ∙ c.status_place.ensures),
+      fills-row _ s,
+      present-key,
+      ← c.has_row-there.ensures,
+      ← c.lacks_column.ensures,
+      ← c.is_misplaced.ensures,
+      ← c.makes_row.ensures,
+    )
+    c.status_fault.ensures
+
+pub returns-then-place : goal.returns-then-place
+returns-then-place c s g =
+    rw (
+      attribute-fault _ _ _ _ _ _ _ _ _ (λ p. c.if-place-status_place.false (p ∙ sym c.status_place.ensures)),
+      clash-at _ _ _ _ _ _ _ _ g,
+      makes-row _ s,
+      removes-row _ s,
+      present-key,
+      c.if-place.true,
+      ← c.has_row-there.ensures,
+      ← c.is_done-made.ensures,
+      ← c.is_done-removed.ensures,
+      ← c.shares_port.ensures _ s,
+    )
+    c.attribute_fault.ensures
+
+pub returns : goal.returns
+returns c s g =
+    rw (
+      attribute-fault _ _ _ _ _ _ _ _ _ (λ p. c.if-place-status_place.false (p ∙ sym c.status_place.ensures)),
+      clash-at _ _ _ _ _ _ _ _ g,
+      makes-row _ s,
+      removes-row _ s,
+      present-key,
+      c.if-place.false,
+      ← c.has_row-there.ensures,
+      ← c.is_done-made.ensures,
+      ← c.is_done-removed.ensures,
+    )
+    c.attribute_fault-2.ensures
