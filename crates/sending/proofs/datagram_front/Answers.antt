@@ -1,15 +1,22 @@
 -- `sending::datagram_front` meets its contract. Assumes nothing.
 use native.Mathlib.Omega.{arith}
-use Prim.Native.Nat.{◌+◌, ◌-◌}
+use mathlib.Core.Path.{◌≡◌}
+use Prim.Native.Nat.{ℕ, ◌+◌, ◌-◌, ◌≤◌}
+use lib.ListN.{length}
+use Rattle.sending.specs.Writing.{header_form}
 use Rattle.sending.proofs.WriteLaws.{header-most}
 use Rattle.sending.proofs.SendLaws.{datagram-front-put}
 use Rattle.sending.proofs.datagram_front.Goals as goal
 
+-- a header has at most four octets
+header-fits : (q p len : ℕ) → q + length (header_form 0x04 len) ≡ p → p ≤ q + 4
+header-fits q p len e = omega (arith, header-most 0x04 len)
+
 pub version_field-v-requires : goal.version_field-v-requires
-version_field-v-requires c = omega (arith, c.requires.0, c.requires.1, c.header_before-c.ensures.0, header-most 0x04 c.args.community)
+version_field-v-requires c = omega (arith, header-fits _ _ _ c.header_before-c.ensures.0)
 
 pub header_before-requires : goal.header_before-requires
-header_before-requires c = omega (arith, c.requires.0, c.requires.1, c.requires.2, c.header_before-c.ensures.0, header-most 0x04 c.args.community, c.version_field-v.ensures.0.starts, c.version_field-v.ensures.1)
+header_before-requires c = omega (arith, header-fits _ _ _ c.header_before-c.ensures.0, c.version_field-v.ensures.0.starts)
 
 pub returns : goal.returns
 returns c =
