@@ -8,27 +8,7 @@ use lib.Seq.{take_at, drop_at, take-append-add}
 use Rattle.octets.specs.Parts.{part, patch, zeros}
 use Rattle.octets.proofs.PartLaws.{length-zeros, zeros-append}
 use Rattle.block.specs.Image.{fit_to}
-use borrow.Author.Rules.{rules}
-use Rattle.set.proofs.name_octets.Statement.{statement}
-use Rattle.set.proofs.name_octets.Tie as tie
-
-add-end : tie.Need-overflow-add-end
-add-end c = search rules
-
-slice-aggregate-copy-in : tie.Need-slice-aggregate-copy-in
-slice-aggregate-copy-in c = search rules
-
-sub-copy-in : tie.Need-overflow-sub-copy-in
-sub-copy-in c = search rules
-
-part-copy-in-start : tie.Need-slice-bounds-copy-in-start
-part-copy-in-start c = search rules
-
-part-copy-in-end : tie.Need-slice-bounds-copy-in-end
-part-copy-in-end c = search rules
-
-copy-in-requires : tie.Need-copy-in-requires
-copy-in-requires c κs = search rules
+use Rattle.set.proofs.name_octets.Goals as goal
 
 -- octets over zeros: what is left of the zeros fills them up
 filled : (xs : List ℕ) (m : ℕ) → patch (zeros (length xs + m)) 0 xs ≡ fit_to (length xs + m) xs
@@ -46,21 +26,9 @@ filled-to n xs h =
     let e : length xs + (n - length xs) ≡ n = omega arith in
     rw e at (filled xs (n - length xs))
 
-returns : tie.Need-returns
+pub returns : goal.returns
 unfolding zeros
 returns c =
-    let a = c.before.before.before.before.before.args in
+    let a = c.args in
     let e : a.at + a.len - a.at ≡ a.len = omega arith in
-    c.before.copy-in.ensures ∙ rw e (filled-to 32 (part a.request.now a.at a.len) (rw length-take (omega arith)))
-
-pub name-octets-spec : {M : Type 1} → statement M
-name-octets-spec =
-    tie.close
-    (tie.spec
-    add-end
-    slice-aggregate-copy-in
-    sub-copy-in
-    part-copy-in-start
-    part-copy-in-end
-    copy-in-requires
-    returns)
+    c.copy_in.ensures ∙ rw e (filled-to 32 (part a.request.now a.at a.len) (rw length-take (omega arith)))
