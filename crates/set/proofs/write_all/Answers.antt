@@ -30,14 +30,18 @@ grown b x m r lawful more rows =
 pub write_phase-requires : goal.write_phase-requires
 write_phase-requires c =
     let a = c.args in
-    (written-image (whole-deletes (written-legal c.requires.0).whole _) (grown a.block.now c.add_deletes.new.block (meant_by a.request.now a.kept a.count) c.lost-rows.result c.requires.0 c.add_deletes.ensures (ap (deletes_more (content_of a.block.now)) (c.lost-rows.ensures a.request.now))), c.requires.1, c.requires.2, omega arith)
+    let more = grown a.block.now c.add_deletes.new.block (meant_by a.request.now a.kept a.count) c.lost-rows.result c.requires.0 c.add_deletes.ensures
+    (ap (deletes_more (content_of a.block.now)) (c.lost-rows.ensures a.request.now)) in
+    (written-image (whole-deletes (written-legal c.requires.0).whole _) more, c.requires.1, c.requires.2, omega arith)
 
 pub returns : goal.returns
 returns c one few =
     let a = c.args in
+    let more = grown a.block.now c.add_deletes.new.block (meant_by a.request.now a.kept a.count) c.lost-rows.result c.requires.0 c.add_deletes.ensures
+    (ap (deletes_more (content_of a.block.now)) (c.lost-rows.ensures a.request.now)) in
     sym c.write_phase-3.ensures.0.same
     ∙ ap image
     (phases-leave a.request.now a.kept a.count (content_of a.block.now)
     (written-legal c.requires.0).whole one few c.add_deletes.new.block c.write_phase.new.block
-    c.write_phase-2.new.block c.write_phase-3.new.block (grown a.block.now c.add_deletes.new.block (meant_by a.request.now a.kept a.count) c.lost-rows.result c.requires.0 c.add_deletes.ensures (ap (deletes_more (content_of a.block.now)) (c.lost-rows.ensures a.request.now))) c.write_phase.ensures.1 c.write_phase-2.ensures.1
+    c.write_phase-2.new.block c.write_phase-3.new.block more c.write_phase.ensures.1 c.write_phase-2.ensures.1
     c.write_phase-3.ensures.1)
