@@ -1,5 +1,5 @@
 -- `refbridge::tallies::rb_tally_event` meets its contract: what the functions say of a pass over the list is what the tally tells. Assumes nothing.
-use mathlib.Core.Path.{◌≡◌, refl, ◌∙◌, ap}
+use mathlib.Core.Path.{◌≡◌, ◌∙◌, ap}
 use Rattle.tally.specs.declared.judge.Plan.{Plan}
 use Rattle.tally.specs.Scan.{scanned, plan_of, mark_of, at_write}
 use Rattle.tally.proofs.TallyLaws.{number-so, cases-so, mark-so}
