@@ -3,11 +3,10 @@ use Prim.Native.Nat.{ℕ, zero, suc, ◌+◌, ◌-◌, ◌*◌, ◌≤◌, ◌<�
 use native.Mathlib.Omega.{arith}
 use native.Mathlib.Numerals.{add-one}
 use mathlib.Core.Path.{◌≡◌, refl, sym, ap, subst, ◌∙◌}
-use mathlib.Core.Bool.{true, false}
 use mathlib.Core.List.{List, [], ◌∷◌, ◌++◌, map, append_assoc, Permᴰ}
 use lib.Dec.{ltb}
 use lib.ListN.{length, take, drop, get_or, set, length-append, length-drop, length-set, take-append-drop, get_or-map}
-use lib.Seq.{length-take-le, take-length, take_at, drop_at, take-append-le, drop-append-le, drop-append-add, drop-drop, append_snoc, get_or-append_seam, get_or-set_same, get_or-set_other, get_or-take}
+use lib.Seq.{length-take-le, take-length, take_at, drop_at, take-append-le, drop-append-le, drop-append-add, drop-drop, get_or-append_seam, get_or-set_same, get_or-set_other, get_or-take}
 use borrow.Author.Tests.{ltb-true, ltb-false}
 use Rattle.octets.specs.Parts.{part}
 use Rattle.octets.proofs.BoolLaws.{by-eq, by_bool}
@@ -15,7 +14,7 @@ use Rattle.octets.specs.Ascending.{All as Every}
 use Rattle.octets.proofs.AllLaws.{all-at}
 use Rattle.message.specs.Answer.{most_octets}
 use Rattle.answer.specs.Respond.{Outcome, answer_of}
-use Rattle.console.specs.Batch.{most_frames, frames_of, octets_at, Within, no_span, AllWithin}
+use Rattle.console.specs.Batch.{most_frames, octets_at, Within, no_span, AllWithin}
 use Rattle.console.specs.declared.frames.Span.{Span}
 use Rattle.batch.specs.Check.{accepted, check_batch}
 use Rattle.batch.specs.Theorems.{numbered, Accepted}

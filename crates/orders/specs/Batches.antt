@@ -1,14 +1,13 @@
 -- E13 over the exported calls: a batch played in an order, message by message. Assumes nothing.
-use Rattle.std.specs.Prelude.{ℕ, zero, suc, ◌+◌, ◌*◌, ◌≤◌, ◌<◌, ◌≡◌, length, take, get_or}
+use Rattle.std.specs.Prelude.{ℕ, zero, suc, ◌*◌, ◌<◌, ◌≡◌, length, take, get_or}
 use mathlib.Core.List.{List, [], ◌∷◌, Permᴰ}
 use Rattle.octets.specs.Parts.{part}
 use Rattle.message.specs.Answer.{most_octets}
 use Rattle.answer.specs.Respond.{Outcome, answer_of}
 use Rattle.console.specs.Batch.{most_frames, frames_of}
-use Rattle.batch.specs.declared.RbBatch.{RbBatch}
 use Rattle.batch.specs.Check.{accepted, check_batch}
 use Rattle.batch.specs.Theorems.{numbered}
-use Rattle.batch.specs.Order.{Call, played, left, SameAnswer}
+use Rattle.batch.specs.Order.{Call, played, left}
 use Rattle.refbridge.specs.declared.RbResult.{RbResult}
 use Rattle.orders.specs.declared.batches.TwoPlays.{TwoPlays}
 use Rattle.refbridge.specs.Calls.{outcome}
