@@ -87,12 +87,12 @@ batches a l o =
       timers = on-image (fresh four_ports a) (framed (set_of [] ∷ max_age ∷ set_of (priority 0 0x10 0 ∷ []) ∷ hello_time ∷ [])) v ∙ c.2;
       row = on-image (fresh four_ports a) (framed (three ++ (ten_again ∷ max_age ∷ hello_time ∷ []))) v ∙ c.3;
       twice = on-image (fresh four_ports a) (framed (set_of (egress 10 (0x80 ∷ []) ∷ egress 10 (0x80 ∷ []) ∷ []) ∷ [])) v ∙ c.4;
-      no-set = on-image (fresh four_ports a) (framed (set_of [] ∷ get_of (1 ∷ 2 ∷ []) ∷ []) ++ (0 ∷ [])) v ∙ c.5;
-      wrong-frame = on-image (fresh four_ports a) (framed (max_age ∷ hello_time ∷ []) ++ (0 ∷ [])) v ∙ c.6;
-      cut-frame = on-image (fresh four_ports a) (framed (max_age ∷ []) ++ (0x7F ∷ 0 ∷ 2 ∷ 0 ∷ [])) v ∙ c.7;
-      long-frame = on-image (fresh four_ports a) (framed (max_age ∷ []) ++ (0x7F ∷ 0 ∷ 2 ∷ 5 ∷ 0xC1 ∷ [])) v ∙ c.8;
-      most-frames = on-image (fresh four_ports a) (framed (replicate most_frames (set_of []))) v ∙ c.9;
-      octet-more = on-image (fresh four_ports a) (framed (replicate most_frames (set_of [])) ++ (0 ∷ [])) v ∙ c.10;
+      no_set = on-image (fresh four_ports a) (framed (set_of [] ∷ get_of (1 ∷ 2 ∷ []) ∷ []) ++ (0 ∷ [])) v ∙ c.5;
+      wrong_frame = on-image (fresh four_ports a) (framed (max_age ∷ hello_time ∷ []) ++ (0 ∷ [])) v ∙ c.6;
+      cut_frame = on-image (fresh four_ports a) (framed (max_age ∷ []) ++ (0x7F ∷ 0 ∷ 2 ∷ 0 ∷ [])) v ∙ c.7;
+      long_frame = on-image (fresh four_ports a) (framed (max_age ∷ []) ++ (0x7F ∷ 0 ∷ 2 ∷ 5 ∷ 0xC1 ∷ [])) v ∙ c.8;
+      frames_at_most = on-image (fresh four_ports a) (framed (replicate most_frames (set_of []))) v ∙ c.9;
+      octet_more = on-image (fresh four_ports a) (framed (replicate most_frames (set_of [])) ++ (0 ∷ [])) v ∙ c.10;
     }
   where
     in_all : (c : Content) (w : Accepted (image c) (framed three)) → frames_of most_frames (framed three) ≡ (three, 0) → every is_octet (framed three) ≡ true

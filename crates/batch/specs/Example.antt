@@ -42,15 +42,15 @@ pub record Batches (a : List ℕ) : Type 0 where
   -- a row that one message names twice is no pair
   pub twice : check_batch (image (fresh four_ports a)) (framed (set_of (egress 10 (0x80 ∷ []) ∷ egress 10 (0x80 ∷ []) ∷ []) ∷ [])) ≡ accepted
   -- a get is no set: 7 at the kind, with the message's number, before the octet of a wrong frame behind it
-  pub no-set : check_batch (image (fresh four_ports a)) (framed (set_of [] ∷ get_of (1 ∷ 2 ∷ []) ∷ []) ++ (0 ∷ []))
+  pub no_set : check_batch (image (fresh four_ports a)) (framed (set_of [] ∷ get_of (1 ∷ 2 ∷ []) ∷ []) ++ (0 ∷ []))
       ≡ record { number = 7; message = 2; offset = 0; first = 0; second = 0; table = 0 }
   -- a wrong octet where a frame should start, or a header that is cut: 21; a length over 1,472: 22, though the frame is cut too
-  pub wrong-frame : check_batch (image (fresh four_ports a)) (framed (max_age ∷ hello_time ∷ []) ++ (0 ∷ [])) ≡ refused_with 21
-  pub cut-frame : check_batch (image (fresh four_ports a)) (framed (max_age ∷ []) ++ (0x7F ∷ 0 ∷ 2 ∷ 0 ∷ [])) ≡ refused_with 21
-  pub long-frame : check_batch (image (fresh four_ports a)) (framed (max_age ∷ []) ++ (0x7F ∷ 0 ∷ 2 ∷ 5 ∷ 0xC1 ∷ [])) ≡ refused_with 22
+  pub wrong_frame : check_batch (image (fresh four_ports a)) (framed (max_age ∷ hello_time ∷ []) ++ (0 ∷ [])) ≡ refused_with 21
+  pub cut_frame : check_batch (image (fresh four_ports a)) (framed (max_age ∷ []) ++ (0x7F ∷ 0 ∷ 2 ∷ 0 ∷ [])) ≡ refused_with 21
+  pub long_frame : check_batch (image (fresh four_ports a)) (framed (max_age ∷ []) ++ (0x7F ∷ 0 ∷ 2 ∷ 5 ∷ 0xC1 ∷ [])) ≡ refused_with 22
   -- 64 messages, and an octet after them
-  pub most-frames : check_batch (image (fresh four_ports a)) (framed (replicate most_frames (set_of []))) ≡ accepted
-  pub octet-more : check_batch (image (fresh four_ports a)) (framed (replicate most_frames (set_of [])) ++ (0 ∷ [])) ≡ refused_with 23
+  pub frames_at_most : check_batch (image (fresh four_ports a)) (framed (replicate most_frames (set_of []))) ≡ accepted
+  pub octet_more : check_batch (image (fresh four_ports a)) (framed (replicate most_frames (set_of [])) ++ (0 ∷ [])) ≡ refused_with 23
 
 -- a source-routing bridge
 abbrev pub routing : Model

@@ -63,15 +63,15 @@ module _ (xs ys : List ℕ) (a w : ℕ) (fits : a + w ≤ length xs) (long : len
       ∙ omega (arith, front, long, fits, length-append ys (drop w (drop a xs)), length-drop w (drop a xs), length-drop a xs)
 
 -- one turn, as the code lends message and room
-pub turned : (block batch rooms : List ℕ) (s : Span) (k : ℕ) {m n : ℕ} {r : RbResult} {ys block-after : List ℕ} → k < most_frames → length rooms ≡ all_rooms
+pub turned : (block batch rooms : List ℕ) (s : Span) (k : ℕ) {m n : ℕ} {r : RbResult} {ys block_after : List ℕ} → k < most_frames → length rooms ≡ all_rooms
     → m ≡ s.len → n ≡ most_octets → length ys ≡ most_octets
-    → outcome r ys block-after ≡ answer_of block (take m (drop s.start batch)) (take n (drop (most_octets * k) rooms))
-    → Turned block (octets_at batch s) rooms k r (take (most_octets * k) rooms ++ (ys ++ drop n (drop (most_octets * k) rooms))) block-after
-turned block batch rooms s k {m} {n} {r} {ys} {block-after} low long em en l e =
-    subst (λ (w : ℕ). Turned block (octets_at batch s) rooms k r (take (most_octets * k) rooms ++ (ys ++ drop w (drop (most_octets * k) rooms))) block-after) (sym en)
+    → outcome r ys block_after ≡ answer_of block (take m (drop s.start batch)) (take n (drop (most_octets * k) rooms))
+    → Turned block (octets_at batch s) rooms k r (take (most_octets * k) rooms ++ (ys ++ drop n (drop (most_octets * k) rooms))) block_after
+turned block batch rooms s k {m} {n} {r} {ys} {block_after} low long em en l e =
+    subst (λ (w : ℕ). Turned block (octets_at batch s) rooms k r (take (most_octets * k) rooms ++ (ys ++ drop w (drop (most_octets * k) rooms))) block_after) (sym en)
     (record {
       answer =
-          ap (λ (room : List ℕ). outcome r room block-after) (written-here rooms ys (most_octets * k) most_octets fits l) ∙ e
+          ap (λ (room : List ℕ). outcome r room block_after) (written-here rooms ys (most_octets * k) most_octets fits l) ∙ e
           ∙ (λ i. answer_of block (take (em i) (drop s.start batch)) (take (en i) (drop (most_octets * k) rooms)));
       others =
           λ j h. by_bool (ltb j k)
@@ -194,7 +194,7 @@ module _ (block batch order rooms : List ℕ) where
         record { each = λ j l. w.done j (omega arith); last = w.block-is ∙ ap (λ (n : ℕ). left block (take n ts)) e ∙ ap (left block) (take-length ts) }
 
     module _ (h : k < length order) (low : k < most_frames) {m : List ℕ} (em : m ≡ numbered (messages_of batch) (get_or order k 0))
-        {r : RbResult} {rooms-after block-after : List ℕ} (t : Turned block-now m rooms-now k r rooms-after block-after)
+        {r : RbResult} {rooms_after block_after : List ℕ} (t : Turned block-now m rooms-now k r rooms_after block_after)
       where
         turn : get_or ts k empty_call ≡ record { message = numbered (messages_of batch) (get_or order k 0); room = room_at rooms k }
         turn =
@@ -208,13 +208,13 @@ module _ (block batch order rooms : List ℕ) where
         abbrev said : Outcome
         said = answer_of (left block (take k ts)) (numbered (messages_of batch) (get_or order k 0)) (room_at rooms k)
 
-        answer : outcome r (room_at rooms-after k) block-after ≡ said
+        answer : outcome r (room_at rooms_after k) block_after ≡ said
         answer = t.answer ∙ (λ i. answer_of (w.block-is i) (em i) (w.ahead k (omega arith) i))
 
-        block-next : block-after ≡ left block (take (suc k) ts)
+        block-next : block_after ≡ left block (take (suc k) ts)
         block-next = ap (λ (o : Outcome). o.block) answer ∙ sym (left-next block ts k within turn)
 
-        pub sofar-more : Sofar (k + 1) (set results k r) rooms-after block-after
+        pub sofar-more : Sofar (k + 1) (set results k r) rooms_after block_after
         sofar-more =
             record {
               few = omega arith;
@@ -223,8 +223,8 @@ module _ (block batch order rooms : List ℕ) where
               block-is = block-next ∙ ap (λ (n : ℕ). left block (take n ts)) (sym (add-one k));
               done =
                   λ j l. by-eq j k
-                  (λ e. subst (λ (i : ℕ). outcome (get_or (set results k r) i no_result) (room_at rooms-after i) (left block (take (suc i) ts)) ≡ (get_or (played block ts) i no_call).1) (sym e)
-                  ((λ i. outcome (get_or-set_same results k r no_result (omega (arith, low, w.many)) i) (room_at rooms-after k) (sym block-next i)) ∙ answer
+                  (λ e. subst (λ (i : ℕ). outcome (get_or (set results k r) i no_result) (room_at rooms_after i) (left block (take (suc i) ts)) ≡ (get_or (played block ts) i no_call).1) (sym e)
+                  ((λ i. outcome (get_or-set_same results k r no_result (omega (arith, low, w.many)) i) (room_at rooms_after k) (sym block-next i)) ∙ answer
                   ∙ sym (ap (λ (p : List ℕ × Outcome). p.1) (played-at block ts k within turn))))
                   (λ e.
                   (λ i. outcome (get_or-set_other results k j r no_result e i) (t.others j e i) (left block (take (suc j) ts)))
@@ -258,8 +258,8 @@ plays-order batch order rooms l h d =
     }
 
 -- two orders of a batch that is accepted
-module _ (block batch p q rooms more : List ℕ) {first second : List RbResult} {rooms-after more-after one-after other_After : List ℕ}
-    (u : PlayedInOrder block batch p rooms first rooms-after one-after) (v : PlayedInOrder block batch q more second more-after other_After)
+module _ (block batch p q rooms more : List ℕ) {first second : List RbResult} {rooms_after more_after one_after other_After : List ℕ}
+    (u : PlayedInOrder block batch p rooms first rooms_after one_after) (v : PlayedInOrder block batch q more second more_after other_After)
     (s : SameInAll block (turns_of batch p rooms) (turns_of batch q more))
   where
     abbrev xs : List Call
@@ -283,11 +283,11 @@ module _ (block batch p q rooms more : List ℕ) {first second : List RbResult} 
         ∙ ap (numbered (messages_of batch)) e
         ∙ sym (ap (λ (o : List ℕ × Outcome). o.0) (played-at block ys k (omega (arith, hk, many-turns (messages_of batch) more 0 q)) (turn_at (messages_of batch) more 0 q k empty_call hk))))
 
-    pub alike : Alike p q first second rooms-after more-after one-after other_After
+    pub alike : Alike p q first second rooms_after more_after one_after other_After
     alike =
         record {
-          first-answered = λ k h. ap (λ (o : Outcome). o.number) (u.each k h) ∙ all-at (λ o. o.1.number ≡ 0) no_call (played block xs) k s.first-answered (in-first k h);
-          second-answered = λ k h. ap (λ (o : Outcome). o.number) (v.each k h) ∙ all-at (λ o. o.1.number ≡ 0) no_call (played block ys) k s.second-answered (in-second k h);
+          first_answered = λ k h. ap (λ (o : Outcome). o.number) (u.each k h) ∙ all-at (λ o. o.1.number ≡ 0) no_call (played block xs) k s.first_answered (in-first k h);
+          second_answered = λ k h. ap (λ (o : Outcome). o.number) (v.each k h) ∙ all-at (λ o. o.1.number ≡ 0) no_call (played block ys) k s.second_answered (in-second k h);
           counts =
               λ j k hj hk e. ap (λ (o : Outcome). o.count) (u.each j hj) ∙ (meets j k hj hk e).count ∙ sym (ap (λ (o : Outcome). o.count) (v.each k hk));
           octets =
@@ -298,18 +298,18 @@ module _ (block batch p q rooms more : List ℕ) {first second : List RbResult} 
         }
 
 -- the check and the two plays
-pub two-orders : {one other batch p q rooms more rooms-after more-after one-after other_After : List ℕ} (r : TwoPlays) → ((i : ℕ) → get_or batch i 0 < 256)
+pub two-orders : {one other batch p q rooms more rooms_after more_after one_after other_After : List ℕ} (r : TwoPlays) → ((i : ℕ) → get_or batch i 0 < 256)
     → length p ≤ most_frames → length q ≤ most_frames → length rooms ≡ all_rooms → length more ≡ all_rooms
-    → r.verdict ≡ check_batch one batch → PlayedInOrder one batch p rooms r.first rooms-after one-after → PlayedInOrder other batch q more r.second more-after other_After
-    → TwoOrders one other batch p q rooms more r rooms-after more-after one-after other_After
-two-orders {one} {other} {batch} {p} {q} {rooms} {more} {rooms-after} {more-after} {one-after} {other_After} r o hp hq lr lm e u v =
+    → r.verdict ≡ check_batch one batch → PlayedInOrder one batch p rooms r.first rooms_after one_after → PlayedInOrder other batch q more r.second more_after other_After
+    → TwoOrders one other batch p q rooms more r rooms_after more_after one_after other_After
+two-orders {one} {other} {batch} {p} {q} {rooms} {more} {rooms_after} {more_after} {one_after} {other_After} r o hp hq lr lm e u v =
     record { checked = e; first = u; second = v; agree = agree }
   where
-    agree : other ≡ one → r.verdict ≡ accepted → IsOrder batch p → IsOrder batch q → Alike p q r.first r.second rooms-after more-after one-after other_After
+    agree : other ≡ one → r.verdict ≡ accepted → IsOrder batch p → IsOrder batch q → Alike p q r.first r.second rooms_after more_after one_after other_After
     agree c t dp dq =
         let a : Accepted one batch = (accepts one batch).0 (sym e ∙ t) in
         let m : messages_of batch ≡ a.messages = ap (λ (f : List (List ℕ) × ℕ). f.0) a.framed in
-        alike one batch p q rooms more u (subst (λ (b : List ℕ). PlayedInOrder b batch q more r.second more-after other_After) c v)
+        alike one batch p q rooms more u (subst (λ (b : List ℕ). PlayedInOrder b batch q more r.second more_after other_After) c v)
         (orders one batch o a (turns_of batch p rooms) (turns_of batch q more)
         (subst (λ (ms : List (List ℕ)). Plays ms (turns_of batch p rooms)) m (plays-order batch p rooms lr hp dp))
         (subst (λ (ms : List (List ℕ)). Plays ms (turns_of batch q more)) m (plays-order batch q more lm hq dq)))

@@ -32,17 +32,17 @@ crossed {one} {other} {a} {b} {r1} {r2} {r3} {r4} {q1} {q2} {q3} {q4} {one1} {on
     let f2 : outcome q.b2 q2 one2 ≡ answer_of (answer_of one a r1).block b r2 = e2 ∙ ap (λ (o : Outcome). answer_of o.block b r2) e1 in
     let f4 : outcome q.a2 q4 other2 ≡ answer_of (answer_of other b r3).block a r4 = e4 ∙ ap (λ (o : Outcome). answer_of o.block a r4) e3 in
     record {
-      first-a = f1;
-      second-b = f2;
-      first-b = f3;
-      second-a = f4;
+      first_a = f1;
+      second_b = f2;
+      first_b = f3;
+      second_a = f4;
       agree =
           λ x.
           rw (f1, f2, f3, f4, x.copies)
-          (order one a b r1 r2 r3 r4 x.legal-block (readable a oa x.readable-a) (readable b ob x.readable-b) x.apart x.room-1 x.room-2 x.room-3 x.room-4);
+          (order one a b r1 r2 r3 r4 x.legal_block (readable a oa x.readable_a) (readable b ob x.readable_b) x.apart x.room_1 x.room_2 x.room_3 x.room_4);
     }
 
 -- so no constant results will do: a short room's call says 1, and under the premises all four say 0
 pub short-told : {one other a b r1 r2 r3 r4 q1 q2 q3 q4 one2 other2 : List ℕ} {q : FourCalls}
     → BothOrders one other a b r1 r2 r3 r4 q q1 q2 q3 q4 one2 other2 → length r1 < most_octets → q.a1.number ≡ 1
-short-told {one} {other} {a} {b} {r1} t h = ap (λ (o : Outcome). o.number) (t.first-a ∙ sym (room-short one a r1 h))
+short-told {one} {other} {a} {b} {r1} t h = ap (λ (o : Outcome). o.number) (t.first_a ∙ sym (room-short one a r1 h))

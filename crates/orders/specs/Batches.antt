@@ -40,18 +40,18 @@ abbrev pub no_call : List ℕ × Outcome
 no_call = ([], record { number = 0; count = 0; offset = 0; room = []; block = [] })
 
 -- one turn: its result, with its room and the block afterwards, is the definition's, and the other rooms keep their octets
-pub record Turned (block message rooms : List ℕ) (k : ℕ) (r : RbResult) (rooms-after block-after : List ℕ) : Type 0 where
-  pub answer : outcome r (room_at rooms-after k) block-after ≡ answer_of block message (room_at rooms k)
-  pub others : (j : ℕ) → (j ≡ k → ⊥) → room_at rooms-after j ≡ room_at rooms j
-  pub long : length rooms-after ≡ length rooms
+pub record Turned (block message rooms : List ℕ) (k : ℕ) (r : RbResult) (rooms_after block_after : List ℕ) : Type 0 where
+  pub answer : outcome r (room_at rooms_after k) block_after ≡ answer_of block message (room_at rooms k)
+  pub others : (j : ℕ) → (j ≡ k → ⊥) → room_at rooms_after j ≡ room_at rooms j
+  pub long : length rooms_after ≡ length rooms
 
 -- a batch played in an order: each turn's result, with its room afterwards, is what the definition gives of that turn (its block is the one that the turn
 -- leaves, which a host can read only before the next turn), and the block afterwards is what all turns leave
-pub record PlayedInOrder (block batch order rooms : List ℕ) (results : List RbResult) (rooms-after block-after : List ℕ) : Type 0 where
+pub record PlayedInOrder (block batch order rooms : List ℕ) (results : List RbResult) (rooms_after block_after : List ℕ) : Type 0 where
   pub each : (k : ℕ) → k < length order
-      → outcome (get_or results k no_result) (room_at rooms-after k) (left block (take (suc k) (turns_of batch order rooms)))
+      → outcome (get_or results k no_result) (room_at rooms_after k) (left block (take (suc k) (turns_of batch order rooms)))
       ≡ (get_or (played block (turns_of batch order rooms)) k no_call).1
-  pub last : block-after ≡ left block (turns_of batch order rooms)
+  pub last : block_after ≡ left block (turns_of batch order rooms)
 
 -- the numbers i, i + 1, .., n of them
 abbrev pub numbers_from : (i n : ℕ) → List ℕ
@@ -64,8 +64,8 @@ IsOrder batch order = Permᴰ (numbers_from 1 (length (messages_of batch))) orde
 
 -- what E13 says of two orders p and q, of results and rooms afterwards
 pub record Alike (p q : List ℕ) (first second : List RbResult) (rooms more one other : List ℕ) : Type 0 where
-  pub first-answered : (k : ℕ) → k < length p → (get_or first k no_result).number ≡ 0
-  pub second-answered : (k : ℕ) → k < length q → (get_or second k no_result).number ≡ 0
+  pub first_answered : (k : ℕ) → k < length p → (get_or first k no_result).number ≡ 0
+  pub second_answered : (k : ℕ) → k < length q → (get_or second k no_result).number ≡ 0
   pub counts : (j k : ℕ) → j < length p → k < length q → get_or p j 0 ≡ get_or q k 0 → (get_or first j no_result).count ≡ (get_or second k no_result).count
   pub octets : (j k : ℕ) → j < length p → k < length q → get_or p j 0 ≡ get_or q k 0
       → take (get_or first j no_result).count (room_at rooms j) ≡ take (get_or second k no_result).count (room_at more k)
@@ -73,9 +73,9 @@ pub record Alike (p q : List ℕ) (first second : List RbResult) (rooms more one
 
 -- the check and the two plays r on two blocks, with the orders p and q, and what they leave: each is the definition's; and on equal copies of one block, where
 -- the check accepts the batch, the two orders agree
-pub record TwoOrders (one other batch p q rooms more : List ℕ) (r : TwoPlays) (rooms-after more-after one-after other_After : List ℕ) : Type 0 where
+pub record TwoOrders (one other batch p q rooms more : List ℕ) (r : TwoPlays) (rooms_after more_after one_after other_After : List ℕ) : Type 0 where
   pub checked : r.verdict ≡ check_batch one batch
-  pub first : PlayedInOrder one batch p rooms r.first rooms-after one-after
-  pub second : PlayedInOrder other batch q more r.second more-after other_After
+  pub first : PlayedInOrder one batch p rooms r.first rooms_after one_after
+  pub second : PlayedInOrder other batch q more r.second more_after other_After
   pub agree : other ≡ one → r.verdict ≡ accepted → IsOrder batch p → IsOrder batch q
-      → Alike p q r.first r.second rooms-after more-after one-after other_After
+      → Alike p q r.first r.second rooms_after more_after one_after other_After

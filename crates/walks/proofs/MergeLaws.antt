@@ -51,10 +51,10 @@ module _ (x : Item) (xs : List Item) (y : Item) (ys : List Item) where
 abbrev pub kind_by : (ports sets plain : Bool) → ℕ
 kind_by ports sets plain = cond ports (cond sets 0 3) (cond plain 0 3)
 
-pub kind-is : (name : List ℕ) (tag : ℕ) (us : List ℕ) (tag' : ℕ) (vs : List ℕ)
+pub kind_is : (name : List ℕ) (tag : ℕ) (us : List ℕ) (tag' : ℕ) (vs : List ℕ)
     → (contrast name tag us tag' vs).kind ≡ kind_by (port_sets name tag us tag' vs) (eqb (set_of us) (set_of vs)) (eqb tag tag' && same us vs)
 unfolding contrast port_contrast plain_contrast
-kind-is name tag us tag' vs = go (port_sets name tag us tag' vs) (eqb (set_of us) (set_of vs)) (eqb tag tag' && same us vs)
+kind_is name tag us tag' vs = go (port_sets name tag us tag' vs) (eqb (set_of us) (set_of vs)) (eqb tag tag' && same us vs)
   where
     go : (p q r : Bool)
         → (cond p (cond q (contrasted 0 0 0 0) (contrasted 3 (members 64 (set_of us)) (members 64 (set_of vs)) (first_differing 64 (set_of us) (set_of vs)))) (cond r (contrasted 0 0 0 0) (contrasted 3 0 0 0))).kind
@@ -65,7 +65,7 @@ kind-is name tag us tag' vs = go (port_sets name tag us tag' vs) (eqb (set_of us
     go false q false = refl
 
 pub contrast-kinds : (name : List ℕ) (tag : ℕ) (us : List ℕ) (tag' : ℕ) (vs : List ℕ) → ((contrast name tag us tag' vs).kind ≡ 0) ⊎ ((contrast name tag us tag' vs).kind ≡ 3)
-contrast-kinds name tag us tag' vs = rw (kind-is name tag us tag' vs) (go (port_sets name tag us tag' vs) (eqb (set_of us) (set_of vs)) (eqb tag tag' && same us vs))
+contrast-kinds name tag us tag' vs = rw (kind_is name tag us tag' vs) (go (port_sets name tag us tag' vs) (eqb (set_of us) (set_of vs)) (eqb tag tag' && same us vs))
   where
     go : (p q r : Bool) → (kind_by p q r ≡ 0) ⊎ (kind_by p q r ≡ 3)
     go true true r = inl refl

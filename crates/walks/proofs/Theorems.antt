@@ -32,7 +32,7 @@ use Rattle.walks.specs.Compare.{CompareOutcome, refused_with, start_of, outlasts
 use Rattle.walks.specs.Theorems.{In, AllAbove, Ascending, names, entry_name, Unnamed, WalksAscend, ReadWhole, FirstAscends, EntriesAscend, TotalsAdd, KindsWritten, OneTail, TailsEnd, OnlyInReference, OnlyInDevice, swap_entry, Exchanged, Swaps, CallExchanged, RefusalKeeps, DifferingInBoth, EqualWalks, UnderPortsColumn, PortsDiffer, OthersDiffer, MissingOctets}
 use Rattle.walks.proofs.WalkLaws.{from_end, from_step}
 use Rattle.names.proofs.RelationLaws.{related-below, related_same, related-above}
-use Rattle.walks.proofs.MergeLaws.{kind_by, kind-is, merge_none, merge-alone, merge-below, merge-same, merge-above, length-entry, totals-add}
+use Rattle.walks.proofs.MergeLaws.{kind_by, kind_is, merge_none, merge-alone, merge-below, merge-same, merge-above, length-entry, totals-add}
 use Rattle.walks.proofs.InductLaws.{merge-induct, never-below, above-all, above_in, walk_up}
 
 pub walks-ascend : WalksAscend
@@ -237,9 +237,9 @@ sets-swap name tag us tag' vs = and-swap (short_string tag (length us)) (short_s
 
 kind-swap : (x y : Item) → x.name ≡ y.name → (contrast_of y x).kind ≡ (contrast_of x y).kind
 kind-swap x y e =
-    kind-is y.name y.tag y.content x.tag x.content
+    kind_is y.name y.tag y.content x.tag x.content
     ∙ rw (← e, sets-swap x.name y.tag y.content x.tag x.content, eqb_swap (set_of y.content) (set_of x.content), eqb_swap y.tag x.tag, same-swap y.content x.content)
-    (sym (kind-is x.name x.tag x.content y.tag y.content))
+    (sym (kind_is x.name x.tag x.content y.tag y.content))
 
 same_back : (x y : Item) (xs ys : List Item) → x.name ≡ y.name → merge (y ∷ ys) (x ∷ xs) ≡ listed_if y x (merge ys xs)
 same_back x y xs ys e = merge-same y ys x xs (rw e (related_same y.name))
@@ -367,7 +367,7 @@ only-in-device xs ys a b z =
 -- equal walks
 contrast-self : (x : Item) → (contrast_of x x).kind ≡ 0
 contrast-self x =
-    kind-is x.name x.tag x.content x.tag x.content
+    kind_is x.name x.tag x.content x.tag x.content
     ∙ rw (eq-eqb (set_of x.content) (set_of x.content) refl, eq-eqb x.tag x.tag refl, same_refl x.content) (go (port_sets x.name x.tag x.content x.tag x.content))
   where
     go : (p : Bool) → kind_by p true true ≡ 0
@@ -387,14 +387,14 @@ equal-walks s list xs e =
 -- port sets
 pub ports-differ : PortsDiffer
 ports-differ name tag us tag' vs h o q =
-    rw (kind-is name tag us tag' vs, h) (go (eqb (set_of us) (set_of vs)) refl)
+    rw (kind_is name tag us tag' vs, h) (go (eqb (set_of us) (set_of vs)) refl)
   where
     go : (t : Bool) → eqb (set_of us) (set_of vs) ≡ t → (kind_by true t (eqb tag tag' && same us vs) ≡ 0) ↔ ((p : ℕ) → member 64 (set_of us) p ≡ member 64 (set_of vs) p)
     go true e = (λ _ p. ap (λ (n : ℕ). member 64 n p) (eqb-true (set_of us) (set_of vs) e), λ _. refl)
     go false e = (λ k. absurd (let z : ⊥ = omega arith in z), λ m. absurd (eqb-false (set_of us) (set_of vs) e (members-same 64 (set_of us) (set_of vs) (set-lt us o) (set-lt vs q) m)))
 
 pub others-differ : OthersDiffer
-others-differ name tag us tag' vs h = rw (kind-is name tag us tag' vs, h) (go (eqb tag tag') refl (same us vs) refl)
+others-differ name tag us tag' vs h = rw (kind_is name tag us tag' vs, h) (go (eqb tag tag') refl (same us vs) refl)
   where
     go : (t : Bool) → eqb tag tag' ≡ t → (u : Bool) → same us vs ≡ u → (kind_by false (eqb (set_of us) (set_of vs)) (t && u) ≡ 0) ↔ ((tag ≡ tag') × (us ≡ vs))
     go true e true f = (λ _. (eqb-true tag tag' e, same-eq us vs f), λ _. refl)

@@ -17,4 +17,4 @@ use Rattle.walks.specs.Theorems.{Vectors}
 
 pub vectors : Vectors
 unfolding be_at be_octets patch same member members_to differs_from set_of below is_prefix subids name_octets objects place_under place_of binding_octets field_at tag_allowed content_length length_right field_judged checked_at content_role content_in binding_in binding_at relation walk_from walk_of ports_column port_sets port_contrast plain_contrast contrast merge_from merge entry_octets list_octets total tailed listed_in compared
-vectors = record { same-ports = refl; other-ports = refl; one-sided = refl }
+vectors = record { same_ports = refl; other_ports = refl; one_sided = refl }
