@@ -258,8 +258,8 @@ plays-order batch order rooms l h d =
     }
 
 -- two orders of a batch that is accepted
-module _ (block batch p q rooms more : List ℕ) {first second : List RbResult} {rooms_after more_after one_after other_After : List ℕ}
-    (u : PlayedInOrder block batch p rooms first rooms_after one_after) (v : PlayedInOrder block batch q more second more_after other_After)
+module _ (block batch p q rooms more : List ℕ) {first second : List RbResult} {rooms_after more_after one_after other_after : List ℕ}
+    (u : PlayedInOrder block batch p rooms first rooms_after one_after) (v : PlayedInOrder block batch q more second more_after other_after)
     (s : SameInAll block (turns_of batch p rooms) (turns_of batch q more))
   where
     abbrev xs : List Call
@@ -283,7 +283,7 @@ module _ (block batch p q rooms more : List ℕ) {first second : List RbResult} 
         ∙ ap (numbered (messages_of batch)) e
         ∙ sym (ap (λ (o : List ℕ × Outcome). o.0) (played-at block ys k (omega (arith, hk, many-turns (messages_of batch) more 0 q)) (turn_at (messages_of batch) more 0 q k empty_call hk))))
 
-    pub alike : Alike p q first second rooms_after more_after one_after other_After
+    pub alike : Alike p q first second rooms_after more_after one_after other_after
     alike =
         record {
           first_answered = λ k h. ap (λ (o : Outcome). o.number) (u.each k h) ∙ all-at (λ o. o.1.number ≡ 0) no_call (played block xs) k s.first_answered (in-first k h);
@@ -298,18 +298,18 @@ module _ (block batch p q rooms more : List ℕ) {first second : List RbResult} 
         }
 
 -- the check and the two plays
-pub two-orders : {one other batch p q rooms more rooms_after more_after one_after other_After : List ℕ} (r : TwoPlays) → ((i : ℕ) → get_or batch i 0 < 256)
+pub two-orders : {one other batch p q rooms more rooms_after more_after one_after other_after : List ℕ} (r : TwoPlays) → ((i : ℕ) → get_or batch i 0 < 256)
     → length p ≤ most_frames → length q ≤ most_frames → length rooms ≡ all_rooms → length more ≡ all_rooms
-    → r.verdict ≡ check_batch one batch → PlayedInOrder one batch p rooms r.first rooms_after one_after → PlayedInOrder other batch q more r.second more_after other_After
-    → TwoOrders one other batch p q rooms more r rooms_after more_after one_after other_After
-two-orders {one} {other} {batch} {p} {q} {rooms} {more} {rooms_after} {more_after} {one_after} {other_After} r o hp hq lr lm e u v =
+    → r.verdict ≡ check_batch one batch → PlayedInOrder one batch p rooms r.first rooms_after one_after → PlayedInOrder other batch q more r.second more_after other_after
+    → TwoOrders one other batch p q rooms more r rooms_after more_after one_after other_after
+two-orders {one} {other} {batch} {p} {q} {rooms} {more} {rooms_after} {more_after} {one_after} {other_after} r o hp hq lr lm e u v =
     record { checked = e; first = u; second = v; agree = agree }
   where
-    agree : other ≡ one → r.verdict ≡ accepted → IsOrder batch p → IsOrder batch q → Alike p q r.first r.second rooms_after more_after one_after other_After
+    agree : other ≡ one → r.verdict ≡ accepted → IsOrder batch p → IsOrder batch q → Alike p q r.first r.second rooms_after more_after one_after other_after
     agree c t dp dq =
         let a : Accepted one batch = (accepts one batch).0 (sym e ∙ t) in
         let m : messages_of batch ≡ a.messages = ap (λ (f : List (List ℕ) × ℕ). f.0) a.framed in
-        alike one batch p q rooms more u (subst (λ (b : List ℕ). PlayedInOrder b batch q more r.second more_after other_After) c v)
+        alike one batch p q rooms more u (subst (λ (b : List ℕ). PlayedInOrder b batch q more r.second more_after other_after) c v)
         (orders one batch o a (turns_of batch p rooms) (turns_of batch q more)
         (subst (λ (ms : List (List ℕ)). Plays ms (turns_of batch p rooms)) m (plays-order batch p rooms lr hp dp))
         (subst (λ (ms : List (List ℕ)). Plays ms (turns_of batch q more)) m (plays-order batch q more lm hq dq)))

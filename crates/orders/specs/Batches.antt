@@ -73,9 +73,9 @@ pub record Alike (p q : List ℕ) (first second : List RbResult) (rooms more one
 
 -- the check and the two plays r on two blocks, with the orders p and q, and what they leave: each is the definition's; and on equal copies of one block, where
 -- the check accepts the batch, the two orders agree
-pub record TwoOrders (one other batch p q rooms more : List ℕ) (r : TwoPlays) (rooms_after more_after one_after other_After : List ℕ) : Type 0 where
+pub record TwoOrders (one other batch p q rooms more : List ℕ) (r : TwoPlays) (rooms_after more_after one_after other_after : List ℕ) : Type 0 where
   pub checked : r.verdict ≡ check_batch one batch
   pub first : PlayedInOrder one batch p rooms r.first rooms_after one_after
-  pub second : PlayedInOrder other batch q more r.second more_after other_After
+  pub second : PlayedInOrder other batch q more r.second more_after other_after
   pub agree : other ≡ one → r.verdict ≡ accepted → IsOrder batch p → IsOrder batch q
-      → Alike p q r.first r.second rooms_after more_after one_after other_After
+      → Alike p q r.first r.second rooms_after more_after one_after other_after

@@ -31,11 +31,11 @@ pub record Crossing (one other a b r1 r2 r3 r4 : List ℕ) : Type 0 where
 -- demand 3's four calls q, with the rooms q1 to q4 and the two blocks that they leave. Each call gave the definition's answer on the block that it got: a
 -- first call the block handed in, a second call the block that the first one's answer leaves (a host can read that one only before the second call). And under
 -- the premises the two orders agree
-pub record BothOrders (one other a b r1 r2 r3 r4 : List ℕ) (q : FourCalls) (q1 q2 q3 q4 one_after other_After : List ℕ) : Type 0 where
+pub record BothOrders (one other a b r1 r2 r3 r4 : List ℕ) (q : FourCalls) (q1 q2 q3 q4 one_after other_after : List ℕ) : Type 0 where
   pub first_a : outcome q.a1 q1 (answer_of one a r1).block ≡ answer_of one a r1
   pub second_b : outcome q.b2 q2 one_after ≡ answer_of (answer_of one a r1).block b r2
   pub first_b : outcome q.b1 q3 (answer_of other b r3).block ≡ answer_of other b r3
-  pub second_a : outcome q.a2 q4 other_After ≡ answer_of (answer_of other b r3).block a r4
+  pub second_a : outcome q.a2 q4 other_after ≡ answer_of (answer_of other b r3).block a r4
   pub agree : Crossing one other a b r1 r2 r3 r4
       → SameInBoth (outcome q.a1 q1 (answer_of one a r1).block) (outcome q.b2 q2 one_after) (outcome q.b1 q3 (answer_of other b r3).block)
-      (outcome q.a2 q4 other_After)
+      (outcome q.a2 q4 other_after)

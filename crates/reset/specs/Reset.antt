@@ -1,4 +1,4 @@
--- A reset (paper 02, E14): "static rows of status 4 (delete_on_reset) go, the remaining rows close up in order, .. all other contents stay". Assumes nothing.
+-- A reset (paper 02, E14): "static rows of status 4 (deleteOnReset) go, the remaining rows close up in order, .. all other contents stay". Assumes nothing.
 use Rattle.std.specs.Prelude.{ℕ, Bool, cond, List, [], ◌∷◌, eqb}
 use Rattle.block.specs.Content.{Content, with_statics}
 use Rattle.block.specs.Image.{image, content_of}
