@@ -1,11 +1,10 @@
 -- Timers in two units (paper 01, "Timers in two units"): a conversion answers a number, 0 or the refusal 10, and a value, 0 when refused. Assumes nothing.
-use Rattle.std.specs.Prelude.{◌≡◌, refl, cond, ℕ, ◌+◌, ◌*◌, ◌/◌, ◌≤◌, ◌<◌, leb}
+use Rattle.std.specs.Prelude.{◌≡◌, refl, cond, Result, Ok, Err, ℕ, ◌+◌, ◌*◌, ◌/◌, ◌≤◌, ◌<◌, leb}
 use Rattle.std.proofs.Common.{sym, ap, ◌∙◌, arith, le-leb}
 use Rattle.std.proofs.lemmas.Bool.{lt-leb}
-use Rattle.timers.specs.declared.TicksResult.{TicksResult}
-use Rattle.timers.specs.declared.TicksResult.TheVariants as in-ticks
-use Rattle.timers.specs.declared.HundredthsResult.{HundredthsResult}
-use Rattle.timers.specs.declared.HundredthsResult.TheVariants as in-hundredths
+use Rattle.timers.specs.declared.Ticks.{Ticks}
+use Rattle.timers.specs.declared.Hundredths.{Hundredths}
+use Rattle.timers.specs.declared.OutOfRange.{OutOfRange}
 
 -- the value v of a timer n that may be at most top; beyond it, the refusal
 unfoldable pub up_to : ℕ → ℕ → ℕ → ℕ × ℕ
@@ -20,13 +19,13 @@ abbrev pub to_hundredths : ℕ → ℕ × ℕ
 to_hundredths b = up_to 65535 b ((100 * b + 255) / 256)
 
 -- the number and the value of each case of the answers
-abbrev pub ticks_answer : TicksResult → ℕ × ℕ
-ticks_answer (in-ticks.Converted t) = (0, t.0)
-ticks_answer in-ticks.OutOfRange = (10, 0)
+abbrev pub ticks_answer : Result Ticks OutOfRange → ℕ × ℕ
+ticks_answer (Ok t) = (0, t.0)
+ticks_answer (Err e) = (10, 0)
 
-abbrev pub hundredths_answer : HundredthsResult → ℕ × ℕ
-hundredths_answer (in-hundredths.Converted t) = (0, t.0)
-hundredths_answer in-hundredths.OutOfRange = (10, 0)
+abbrev pub hundredths_answer : Result Hundredths OutOfRange → ℕ × ℕ
+hundredths_answer (Ok t) = (0, t.0)
+hundredths_answer (Err e) = (10, 0)
 
 -- a timer in range, and one beyond it
 pub converted : (top n v : ℕ) → n ≤ top → (0, v) ≡ up_to top n v
