@@ -2,15 +2,17 @@
 use mathlib.Core.Path.{◌≡◌, refl, sym, ap, ap₂, ◌∙◌}
 use mathlib.Core.List.{List, [], ◌∷◌, ◌++◌, append_assoc, append-nil}
 use mathlib.Core.Bool.{Bool, true, false, ◌&&◌, false≢true, and-true, and_assoc}
-use Prim.Native.Nat.{ℕ, zero, suc, ◌+◌, ◌≤◌, ◌<◌}
+use Prim.Native.Nat.{ℕ, zero, suc, ◌+◌, ◌-◌, ◌≤◌, ◌<◌}
 use native.Mathlib.Nat.{add-zero}
 use native.Mathlib.Numerals.{add-one}
 use native.Mathlib.Omega.{arith}
 use lib.ListN.{drop_of_length-le, length, length-take, take, drop, get_or, set, length-append, length-drop, take-append-drop, get_or-append, replicate-append-replicate, length-replicate}
 use lib.Seq.{get_or-take, get_or-drop, take-set-le, drop-cons, append_snoc, length-take-le, take_at, drop_at, set_at, set_split, get_or-append-add, take-add, drop-drop, sets, sets-eq, set_comm, get_or_at}
 use borrow.Author.Tests.{eqb-true, eq-eqb, ne_eqb, eqb-false}
+use borrow.Rule.Slice.PartMut.{put_mid}
 use lib.Bits.{bit_or, or_zero_l, or_add_and, and_le_r}
 use lib.Dec.{eqb, eqb-suc-zero}
+use Rattle.std.specs.Cmp.Lexicographic.{pointwise}
 use Rattle.octets.specs.Parts.{part, patch, zeros, zero_run, same}
 use Rattle.octets.proofs.BoolLaws.{both}
 
@@ -45,13 +47,14 @@ patch-store b p xs d h =
     ∙ ap (λ (r : List ℕ). r ++ drop (suc (p + length xs)) b) (append_assoc (take p b) xs (d ∷ []))
     ∙ ap (λ (k : ℕ). take p b ++ (xs ++ (d ∷ [])) ++ drop k b) e
 
+-- what a write to a part leaves
+pub mid-patch : (b : List ℕ) (p k : ℕ) (ys xs : List ℕ) → ys ≡ xs → k ≡ length xs → put_mid p k b ys ≡ patch b p xs
+unfolding patch
+mid-patch b p k ys xs e f = rw (e, f, drop-drop (length xs) p b) (sym (append_assoc (take p b) xs (drop (p + length xs) b)))
+
 pub length-patch : (b : List ℕ) (p : ℕ) (xs : List ℕ) → p + length xs ≤ length b → length (patch b p xs) ≡ length b
 unfolding patch
 length-patch b p xs h = simp (length-append, length-drop) (omega (arith, length-take-le p b (omega arith)))
-
-pub zeros-snoc : (n : ℕ) → zeros (n + 1) ≡ zeros n ++ (0 ∷ [])
-unfolding zeros
-zeros-snoc n = sym (replicate-append-replicate n 1 0)
 
 pub length-zeros : (n : ℕ) → length (zeros n) ≡ n
 unfolding zeros
@@ -185,6 +188,17 @@ module _ (s : List ℕ) (p n : ℕ) where
   pub part-first : 0 < n → get_or (part s p n) 0 0 ≡ get_or s p 0
   part-first h = part-at 0 h ∙ ap (λ (k : ℕ). get_or s k 0) (omega arith)
 
+-- the same of a part that is lent by its two ends
+module _ (s : List ℕ) (p n : ℕ) where
+  pub lent-is : part s p (p + n - p) ≡ part s p n
+  lent-is = let e : p + n - p ≡ n = omega arith in rw e
+
+  pub lent_length : p + n ≤ length s → length (part s p (p + n - p)) ≡ n
+  lent_length h = rw lent-is (part_length s p n h)
+
+  pub lent-at : (i : ℕ) → i < n → get_or (part s p (p + n - p)) i 0 ≡ get_or s (p + i) 0
+  lent-at i h = rw lent-is (part-at s p n i h)
+
 -- a part of one octet
 pub part-one : (s : List ℕ) (p : ℕ) → p < length s → part s p 1 ≡ get_or s p 0 ∷ []
 part-one s p h = rw (drop-cons s p 0 h)
@@ -228,11 +242,13 @@ same-lengths xs ys h = go (same xs ys) refl
     go true e = absurd (h (ap length (same-eq xs ys e)))
     go false e = e
 
--- a turn of the comparison
-pub same_turn : (xs ys : List ℕ) (i : ℕ) → i < length xs → i < length ys
-    → same (drop i xs) (drop i ys) ≡ (eqb (get_or xs i 0) (get_or ys i 0) && same (drop (i + 1) xs) (drop (i + 1) ys))
+-- the slices' own test is this one
+pub pointwise-same : (xs ys : List ℕ) → pointwise eqb xs ys ≡ same xs ys
 unfolding same
-same_turn xs ys i h k = rw (add-one, drop-cons xs i 0 h, drop-cons ys i 0 k)
+pointwise-same [] [] = refl
+pointwise-same [] (y ∷ ys) = refl
+pointwise-same (x ∷ xs) [] = refl
+pointwise-same (x ∷ xs) (y ∷ ys) = rw (pointwise-same xs ys)
 
 -- the last octets are zeros where they are found so
 pub same-last : (b : List ℕ) (p n : ℕ) → p + n ≡ length b → same (zeros n) (drop p b) ≡ zero_run b p n

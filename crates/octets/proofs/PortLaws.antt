@@ -4,7 +4,7 @@ use mathlib.Core.Path.{◌≡◌, refl, sym, ap, ap₂, ◌∙◌}
 use mathlib.Core.List.{List, [], ◌∷◌, ◌++◌}
 use mathlib.Core.Bool.{Bool, true, false, cond, ◌&&◌, and-false, beq}
 use Prim.Native.Nat.{ℕ, zero, suc, ◌+◌, ◌-◌, ◌*◌, ◌/◌, ◌%◌, ◌^◌, ◌≤◌, ◌<◌, min}
-use native.Mathlib.Nat.{zero-add, one-le-pow, div-eq_of_lt, div-eq_of_lt-le, pos_of_ne-zero, mul-suc, zero-min, zero-mod, zero-div, mod-one, mul-mod_left, mul-add-mod_self_right, div-one, div-lt_iff_lt-mul, div-add-mod', div-div-eq-div-mul, mul_comm, mul_assoc, mul-one, add-zero, add-suc, pow-suc, sub_self}
+use native.Mathlib.Nat.{one-le-pow, div-eq_of_lt, div-eq_of_lt-le, pos_of_ne-zero, mul-suc, zero-min, zero-mod, zero-div, mod-one, mul-mod_left, mul-add-mod_self_right, div-one, div-lt_iff_lt-mul, div-add-mod', div-div-eq-div-mul, mul_comm, mul_assoc, mul-one, add-zero, add-suc, pow-suc, sub_self}
 use native.Mathlib.Decide.{dec_le, dec_lt}
 use native.Mathlib.Numerals.{one-add}
 use native.Mathlib.Omega.{arith}
@@ -12,14 +12,16 @@ use lib.Arith.{lt-one}
 use lib.Bits.{bit_and, bit_xor, differ, and_step, xor_step, and_shr, xor_shr, and_zero_r, and_comm, and_lt, and_le_l, and_le_r, xor_add_and, xor_lt}
 use lib.Count.{ones, ones_step, count_leading_zeros, leading_unique}
 use lib.Dec.{eqb, leb}
-use lib.ListN.{length, take, drop, get_or, length-take, get_or-eq_default, get_or-append}
+use lib.ListN.{length, take, drop, get_or, get_or-eq_default, get_or-append}
 use lib.Pow.{mod-pow-add, ones_lt, pow_pos, pow-add, pow-sub-lt, shl-shr, shr-shr, ones_split, high, high_ones, field, mod-mod-pow}
-use lib.Seq.{get_or-take, get_or-drop, take-append-le, take_all, get_or-append-add}
+use lib.Seq.{get_or-drop, take-append-le, take_all, get_or-append-add}
 use borrow.Author.Tests.{eqb-true, eq-eqb, le-leb, lt-leb}
+use mir.Syntax.{w64}
+use Rattle.std.specs.Int.{from_be_bytes}
 use Rattle.octets.specs.Numbers.{be_at, be_octets}
-use Rattle.octets.specs.Parts.{part, zeros}
+use Rattle.octets.specs.Parts.{zeros}
 use Rattle.octets.specs.Ports.{member, ports_to, only_to, disjoint, members_to, members, differs_from, first_differing, set_of, port_octets}
-use Rattle.octets.proofs.NumberLaws.{Octets, be_at-more, length-be_octets, be_at-be_octets, be_at-lt, be_at-same}
+use Rattle.octets.proofs.NumberLaws.{Octets, length-be_octets, be_at-be_octets, be_at-lt, be_at-same}
 use Rattle.octets.proofs.PartLaws.{zeros-at}
 use Rattle.octets.proofs.BoolLaws.{one-or-none}
 
@@ -295,15 +297,19 @@ port-octets-is n s h =
 pub length-port-octets : (n s : ℕ) → n ≤ 64 → length (port_octets n s) ≡ (n + 7) / 8
 length-port-octets n s h = rw (port-octets-is n s h) (length-be_octets _ _)
 
--- one octet more of a part: the turn of a loop that reads it
-pub be_at-part : (s : List ℕ) (p n i : ℕ) → i < n → be_at (part s p n) 0 (i + 1) ≡ be_at (part s p n) 0 i * 256 + get_or s (p + i) 0
-be_at-part s p n i h = be_at-more (part s p n) 0 i ∙ rw (zero-add, get_or-take n (drop p s) i 0 h, get_or-drop)
+-- zeros behind octets are as nothing behind them
+zeros-behind : (xs zs : List ℕ) (i : ℕ) → ((j : ℕ) → get_or zs j 0 ≡ 0) → get_or (xs ++ zs) i 0 ≡ get_or xs i 0
+zeros-behind [] zs i h = h i
+zeros-behind (x ∷ xs) zs zero h = refl
+zeros-behind (x ∷ xs) zs (suc i) h = zeros-behind xs zs i h
 
--- an octet past the end of a part counts as 0
-pub be_at-past : (s : List ℕ) (p n i : ℕ) → n ≤ i → be_at (part s p n) 0 (i + 1) ≡ be_at (part s p n) 0 i * 256
-be_at-past s p n i h =
-    let l : length (part s p n) ≤ 0 + i = rw length-take (omega arith) in
-    be_at-more (part s p n) 0 i ∙ rw (get_or-eq_default (part s p n) 0 l, add-zero)
+-- eight octets, these in front of zeros, are the set that these write
+pub set-filled : (xs : List ℕ) (n : ℕ) → from_be_bytes w64 (xs ++ drop n (zeros 8)) ≡ set_of xs
+unfolding be_at set_of
+set-filled xs n =
+    let z : List ℕ = drop n (zeros 8) in
+    let all : from_be_bytes w64 (xs ++ z) ≡ be_at (xs ++ z) 0 8 = omega arith in
+    all ∙ be_at-same (xs ++ z) xs 0 0 8 (λ i h. zeros-behind xs z (0 + i) (λ j. get_or-drop n (zeros 8) j 0 ∙ zeros-at 8 (n + j)))
 
 -- what octets write is a set of 64 ports
 pub set-lt : (xs : List ℕ) → Octets xs → set_of xs < 2 ^ 64

@@ -9,10 +9,8 @@ pub fn be(s: &[u8], at: usize, w: usize) -> u64
     ensures { (result ≡ be_at s.now at w) × (result < 256 ^ w) }
 {
     let mut acc: u64 = 0;
-    let mut i = 0;
-    while i < w {
-        acc = acc * 256 + s[at + i] as u64;
-        i += 1;
+    for x in &s[at..at + w] {
+        acc = acc * 256 + u64::from(*x);
     }
     acc
 }
@@ -22,15 +20,14 @@ pub fn put(s: &mut [u8], at: usize, w: usize, v: u64)
     requires { at + w ≤ length s.old }
     ensures { s.new ≡ patch s.old at (be_octets w v) }
 {
-    let mut i = w;
-    let mut x = v;
-    while 0 < i {
-        i -= 1;
-        s[at + i] = (x % 256) as u8;
-        x /= 256;
+    let mut left = v;
+    for i in (0..w).rev() {
+        s[at + i] = (left % 256) as u8;
+        left /= 256;
     }
 }
 
+// Each width has its own result type, which no const parameter gives: three short calls of be.
 pub fn be2(s: &[u8], at: usize) -> u16
     requires { at + 2 ≤ length s.now }
     ensures { result ≡ be_at s.now at 2 }
@@ -56,5 +53,5 @@ pub fn put_be4(s: &mut [u8], at: usize, v: u32)
     requires { at + 4 ≤ length s.old }
     ensures { s.new ≡ patch s.old at (be_octets 4 v) }
 {
-    put(s, at, 4, v as u64);
+    put(s, at, 4, u64::from(v));
 }

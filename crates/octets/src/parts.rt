@@ -7,11 +7,7 @@ pub fn clear(s: &mut [u8], at: usize, n: usize)
     requires { at + n ≤ length s.old }
     ensures { s.new ≡ patch s.old at (zeros n) }
 {
-    let mut i = 0;
-    while i < n {
-        s[at + i] = 0;
-        i += 1;
-    }
+    s[at..at + n].fill(0);
 }
 
 // All of src goes into s from index at on.
@@ -19,11 +15,7 @@ pub fn copy_in(s: &mut [u8], at: usize, src: &[u8])
     requires { at + length src.now ≤ length s.old }
     ensures { s.new ≡ patch s.old at src.now }
 {
-    let mut i = 0;
-    while i < src.len() {
-        s[at + i] = src[i];
-        i += 1;
-    }
+    s[at..at + src.len()].copy_from_slice(src);
 }
 
 // Whether n octets from index at are all 0. All of them are looked at, so that the loop has one way out and the compiler can widen it.
@@ -32,10 +24,8 @@ pub fn all_zero(s: &[u8], at: usize, n: usize) -> bool
     ensures { result ≡ zero_run s.now at n }
 {
     let mut bits: u8 = 0;
-    let mut i = 0;
-    while i < n {
-        bits |= s[at + i];
-        i += 1;
+    for x in &s[at..at + n] {
+        bits |= *x;
     }
     bits == 0
 }
@@ -44,15 +34,5 @@ pub fn all_zero(s: &[u8], at: usize, n: usize) -> bool
 pub fn same_octets(s: &[u8], t: &[u8]) -> bool
     ensures { result ≡ same s.now t.now }
 {
-    if s.len() != t.len() {
-        return false;
-    }
-    let mut i = 0;
-    while i < s.len() {
-        if s[i] != t[i] {
-            return false;
-        }
-        i += 1;
-    }
-    true
+    s == t
 }

@@ -8,13 +8,10 @@ use super::numbers::put;
 pub fn is_member(set: u64, port: u32) -> bool
     ensures { result ≡ member 64 set port }
 {
-    if port < 1 {
-        return false;
+    match port {
+        1..=64 => (set >> (64 - port)) % 2 == 1,
+        _ => false,
     }
-    if 64 < port {
-        return false;
-    }
-    (set >> (64 - port)) % 2 == 1
 }
 
 // The set of all ports 1 to n.
@@ -53,6 +50,7 @@ pub fn count_members(set: u64) -> u32
 pub fn first_differing(a: u64, b: u64) -> u32
     ensures { result ≡ first_differing 64 a b }
 {
+    // 0 for none, as in the definition that the comparison of walks cites.
     if a == b {
         return 0;
     }
@@ -64,16 +62,9 @@ pub fn set_at(s: &[u8], at: usize, n: usize) -> u64
     requires { (at + n ≤ length s.now) × (n ≤ 8) }
     ensures { result ≡ set_of (part s.now at n) }
 {
-    let mut acc: u64 = 0;
-    let mut i = 0;
-    while i < 8 {
-        acc *= 256;
-        if i < n {
-            acc += s[at + i] as u64;
-        }
-        i += 1;
-    }
-    acc
+    let mut octets = [0; 8];
+    octets[..n].copy_from_slice(&s[at..at + n]);
+    u64::from_be_bytes(octets)
 }
 
 // Puts the octets of the set of a bridge with n ports from index at on.

@@ -1,9 +1,8 @@
--- `octets::gaps::close_gap` meets its contract: what the two calls ensure, joined by a law. Assumes nothing.
-use native.Mathlib.Omega.{arith}
-use Rattle.octets.proofs.GapLaws.{patch-lowered}
+-- `octets::gaps::close_gap` meets its contract. Assumes nothing.
+use Rattle.octets.proofs.GapLaws.{closed-moved}
 use Rattle.octets.proofs.gaps.close_gap.Goals as goal
 
 pub returns : goal.returns
 returns c =
     let a = c.args in
-    cc (patch-lowered a.s.now a.from a.to a.w (omega arith) (omega arith))
+    cc (closed-moved a.s.now a.from a.to a.w c.requires.0 c.requires.1, c.copy_within.ensures.after, c.clear.ensures)

@@ -1,9 +1,8 @@
--- `octets::gaps::open_gap` meets its contract: what the two calls ensure, joined by a law. Assumes nothing.
-use native.Mathlib.Omega.{arith}
-use Rattle.octets.proofs.GapLaws.{patch-raised}
+-- `octets::gaps::open_gap` meets its contract. Assumes nothing.
+use Rattle.octets.proofs.GapLaws.{opened-moved}
 use Rattle.octets.proofs.gaps.open_gap.Goals as goal
 
 pub returns : goal.returns
 returns c =
     let a = c.args in
-    cc (patch-raised a.s.now a.from a.to a.w (omega arith) (omega arith))
+    cc (opened-moved a.s.now a.from a.to a.w c.requires.0 c.requires.1, c.copy_within.ensures.after, c.clear.ensures)

@@ -4,37 +4,37 @@ use native.Mathlib.Omega.{arith}
 use lib.ListN.{get_or}
 use Rattle.octets.specs.Numbers.{be_at}
 use Rattle.octets.proofs.NumberLaws.{room, room8, be_at-more}
+use Rattle.octets.proofs.PartLaws.{lent_length, lent-at}
 use Rattle.octets.proofs.numbers.be.Goals as goal
 
-pub loop-i-init : goal.loop-i-init
+pub loop-x-init : goal.loop-x-init
 unfolding be_at
-loop-i-init c = (omega arith, refl, omega arith)
-
--- the octet that a turn reads, and what a turn makes of acc, which fits
-octet : (c : goal.After-shared_slice_known-1) → get_or c.args.s.now (c.args.at + c.loop-i.i) 0 < 256
-octet c = omega (arith, c.type_inv.s (c.args.at + c.loop-i.i))
+loop-x-init c = (refl, omega arith)
 
 pub overflow_mul-acc : goal.overflow_mul-acc
 overflow_mul-acc c =
-    let l = c.loop-i in
-    omega (arith, room8 l.i (l.acc * 256 + 0) (omega arith) (room l.i l.acc 0 l.invariant.2 (omega arith)))
-
-pub overflow_cast-acc : goal.overflow_cast-acc
-overflow_cast-acc c = omega (arith, octet c)
-
-pub overflow_add-acc-in-loop-i : goal.overflow_add-acc-in-loop-i
-overflow_add-acc-in-loop-i c =
-    let l = c.loop-i in
-    omega (arith, room8 l.i _ (omega arith) (room l.i l.acc _ l.invariant.2 (octet c)))
-
-pub loop-i-preserved : goal.loop-i-preserved
-loop-i-preserved c =
-    let l = c.loop-i in
+    let l = c.loop-x in
     let a = c.args in
-    (omega arith, rw be_at-more (ap (λ (n : ℕ). n * 256 + get_or a.s.now (a.at + l.i) 0) l.invariant.1), room l.i l.acc _ l.invariant.2 (octet c))
+    let k : l.x-index < a.w = omega (arith, c.loop-x-test.true, lent_length a.s.now a.at a.w c.requires.0) in
+    omega (arith, room8 l.x-index (l.acc * 256 + 0) (omega arith) (room l.x-index l.acc 0 l.invariant.1 (omega arith)))
 
-pub returns : goal.returns
-returns c =
-    let l = c.loop-i in
-    let e : l.i ≡ c.args.w = omega arith in
-    (l.invariant.1 ∙ ap (be_at c.args.s.now c.args.at) e, rw e at l.invariant.2)
+-- a turn is within the width, and the octet that it reads
+within : (c : goal.After-from) → c.loop-x.x-index < c.args.w
+within c = omega (arith, c.loop-x-test.true, lent_length c.args.s.now c.args.at c.args.w c.requires.0)
+
+octet : (c : goal.After-from) → c.from.result ≡ get_or c.args.s.now (c.args.at + c.loop-x.x-index) 0
+octet c = c.from.ensures ∙ lent-at c.args.s.now c.args.at c.args.w c.loop-x.x-index (within c)
+
+small : (c : goal.After-from) → c.from.result < 256
+small c = omega (arith, octet c, c.type_inv.s (c.args.at + c.loop-x.x-index))
+
+pub overflow_add-acc : goal.overflow_add-acc
+overflow_add-acc c =
+    let l = c.loop-x in
+    omega (arith, room8 l.x-index _ (omega (arith, within c)) (room l.x-index l.acc _ l.invariant.1 (small c)))
+
+pub loop-x-preserved : goal.loop-x-preserved
+loop-x-preserved c =
+    let l = c.loop-x in
+    let a = c.args in
+    (rw (be_at-more, octet c) (ap (λ (n : ℕ). n * 256 + get_or a.s.now (a.at + l.x-index) 0) l.invariant.0), room l.x-index l.acc _ l.invariant.1 (small c))

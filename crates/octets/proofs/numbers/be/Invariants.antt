@@ -1,11 +1,8 @@
--- `octets::numbers::be` meets its contract. The invariant: acc is the number of the i octets passed, and below 256 ^ i. Assumes nothing.
+-- `octets::numbers::be` meets its contract. The invariant: acc is the number of the octets passed, and has their width. Assumes nothing.
 use mathlib.Core.Path.{◌≡◌}
-use Prim.Native.Nat.{◌^◌, ◌≤◌, ◌<◌, ◌-◌}
+use Prim.Native.Nat.{◌^◌, ◌<◌}
 use Rattle.octets.specs.Numbers.{be_at}
 use Rattle.octets.proofs.numbers.be.Given as goal
 
-abbrev pub invariant-loop-i : goal.invariant-loop-i
-invariant-loop-i l = (l.i ≤ l.w) × (l.acc ≡ be_at l.s l.at l.i) × (l.acc < 256 ^ l.i)
-
-abbrev pub decreases-loop-i : goal.decreases-loop-i
-decreases-loop-i l = l.w - l.i
+abbrev pub invariant-loop-x : goal.invariant-loop-x
+invariant-loop-x l = (l.acc ≡ be_at l.s l.at l.x-index) × (l.acc < 256 ^ l.x-index)

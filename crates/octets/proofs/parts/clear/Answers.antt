@@ -1,35 +1,16 @@
-use mathlib.Core.Path.{◌≡◌, refl, ap, ◌∙◌, sym}
-use mathlib.Core.List.{List}
-use Prim.Native.Nat.{ℕ, ◌+◌}
+-- `octets::parts::clear` meets its contract. Assumes nothing.
+use mathlib.Core.Path.{ap, ◌∙◌}
+use Prim.Native.Nat.{ℕ}
 use native.Mathlib.Omega.{arith}
-use lib.ListN.{length, set, length-set}
-use Rattle.octets.specs.Parts.{patch, zeros}
-use Rattle.octets.proofs.PartLaws.{patch-store, patch-none, zeros-snoc, length-zeros}
+use lib.ListN.{replicate}
+use Rattle.octets.specs.Parts.{zeros}
+use Rattle.octets.proofs.PartLaws.{mid-patch, length-zeros, lent_length}
 use Rattle.octets.proofs.parts.clear.Goals as goal
 
-pub loop-i-init : goal.loop-i-init
-unfolding zeros
-loop-i-init c = (omega arith, refl, patch-none _ _)
-
-pub loop-i-preserved : goal.loop-i-preserved
-loop-i-preserved c =
-    let l = c.loop-i in
-    let a = c.args in
-    let e : length (zeros l.i) ≡ l.i = length-zeros l.i in (
-      omega arith,
-      rw length-set l.invariant.1,
-      ap (λ (u : List ℕ). set u (a.at + l.i) 0) l.invariant.2
-          ∙ ap (λ (k : ℕ). set (patch a.s.now a.at (zeros l.i)) (a.at + k) 0) (sym e)
-          ∙ patch-store a.s.now a.at (zeros l.i) 0 (omega arith)
-          ∙ ap (patch a.s.now a.at) (sym (zeros-snoc l.i)),
-    )
-
-pub shape_of-s : goal.shape_of-s
-shape_of-s c = c.loop-i.invariant.1
-
 pub returns : goal.returns
+unfolding zeros
 returns c =
-    let l = c.loop-i in
     let a = c.args in
-    let e : l.i ≡ a.n = omega arith in
-    l.invariant.2 ∙ ap (λ (k : ℕ). patch a.s.now a.at (zeros k)) e
+    mid-patch _ _ _ _ _
+    (c.fill.ensures.after (λ y e. e) ∙ ap (λ (k : ℕ). replicate k 0) (lent_length a.s.now a.at a.n c.requires))
+    (omega (arith, length-zeros a.n))
