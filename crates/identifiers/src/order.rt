@@ -1,69 +1,54 @@
 // Names in octets, four for each sub-id: how they stand to a prefix and to each other, and their octets.
-ghost use Rattle.std.specs.Prelude.{◌≡◌, ◌+◌, ◌*◌, ◌≤◌, length, take};
+ghost use Rattle.std.specs.Prelude.{◌≡◌, ◌+◌, ◌*◌, ◌≤◌, length};
 ghost use Rattle.octets.specs.Parts.{patch};
 ghost use Rattle.names.specs.Order.{side_of, relation};
 ghost use Rattle.names.specs.SubIds.{subids, name_octets};
 
-use names::order::{Relation, Side};
+use names::order::Side;
 use octets::numbers::{be4, put_be4};
+use std::cmp::Ordering;
 
-// How the name stands to the first n of ids.
-pub fn stands(name: &[u8], ids: &[u32], n: usize) -> Side
-    requires { n ≤ length ids.now }
-    ensures { result ≡ side_of (subids name.now) (take n ids.now) }
+// How the name stands to a prefix.
+pub fn stands(name: &[u8], prefix: &[u32]) -> Side
+    ensures { result ≡ side_of (subids name.now) prefix.now }
 {
-    let mut i: usize = 0;
-    while i < n {
-        let at = 4 * i;
-        if name.len() - at < 4 {
+    for (i, p) in prefix.iter().enumerate() {
+        if name.len() - 4 * i < 4 {
             return Side::Below;
         }
-        let x = be4(name, at);
-        let p = ids[i];
-        if x < p {
+        // Two tests: by an Ordering, which compiled code makes a number first, a look-up has a third more instructions.
+        let x = be4(name, 4 * i);
+        if x < *p {
             return Side::Below;
         }
-        if p < x {
+        if *p < x {
             return Side::Above;
         }
-        i += 1;
     }
     Side::Prefix
 }
 
-// Puts the octets of the first n of ids from index at on.
-pub fn put_subids(s: &mut [u8], at: usize, ids: &[u32], n: usize)
-    requires { (n ≤ length ids.now) × (at + 4 * n ≤ length s.old) }
-    ensures { s.new ≡ patch s.old at (name_octets (take n ids.now)) }
+// Puts the octets of sub-ids from index at on.
+pub fn put_subids(s: &mut [u8], at: usize, ids: &[u32])
+    requires { at + 4 * length ids.now ≤ length s.old }
+    ensures { s.new ≡ patch s.old at (name_octets ids.now) }
 {
-    let mut i: usize = 0;
-    while i < n {
-        put_be4(s, at + 4 * i, ids[i]);
-        i += 1;
+    for (i, id) in ids.iter().enumerate() {
+        put_be4(s, at + 4 * i, *id);
     }
 }
 
-// How the first name stands to the second.
-pub fn relate(a: &[u8], b: &[u8]) -> Relation
+// How the first name stands to the second: the first sub-ids that differ decide, and else how many there are.
+pub fn relate(a: &[u8], b: &[u8]) -> Ordering
     ensures { result ≡ relation (subids a.now) (subids b.now) }
 {
-    let mut at: usize = 0;
-    while 4 <= a.len() - at {
-        if b.len() - at < 4 {
-            return Relation::Higher;
+    let n = a.len() / 4;
+    let m = b.len() / 4;
+    for i in 0..n.min(m) {
+        let order = be4(a, 4 * i).cmp(&be4(b, 4 * i));
+        if order.is_ne() {
+            return order;
         }
-        let x = be4(a, at);
-        let y = be4(b, at);
-        if x < y {
-            return Relation::Lower;
-        }
-        if y < x {
-            return Relation::Higher;
-        }
-        at += 4;
     }
-    if b.len() - at < 4 {
-        return Relation::Same;
-    }
-    Relation::Lower
+    n.cmp(&m)
 }

@@ -8,32 +8,22 @@ use native.Mathlib.Omega.{arith}
 use lib.ListN.{length, take, drop, length-append}
 use lib.Seq.{drop_at}
 use Rattle.names.specs.SubIds.{subids}
+use Rattle.std.specs.Prelude.{Option as Answer, Ok, Err}
 use Rattle.names.specs.Index.{can_have, index, key_in, answered}
 use Rattle.names.specs.Devices.{has}
 use Rattle.names.specs.Table.{object_count, object_at, type_name, place_of}
 use Rattle.names.specs.Instances.{instance_name}
-use Rattle.names.specs.Targets.{rest_of, target_at, target_under, on_model, target_in}
+use Rattle.names.specs.Targets.{Target, instance, rest_of, target_at, target_under, on_model, target_in}
 use Rattle.names.specs.declared.model.Model.{Model}
 use Rattle.names.specs.declared.Shape.{Shape}
-use Rattle.names.specs.declared.Key.{Key}
-use Rattle.names.specs.declared.Key.TheVariants.{At as KeyAt, Nothing}
 use Rattle.names.specs.declared.table.ObjectType.{ObjectType}
-use Rattle.names.specs.declared.targets.Target.{Target}
-use Rattle.names.specs.declared.targets.Target.TheVariants.{Unknown, NoIndex, At}
+use Rattle.names.specs.declared.targets.NoInstance.TheVariants.{NoObject, NoIndex}
 use Rattle.names.proofs.SubIdLaws.{subids-count, subids-drop}
 use Rattle.names.proofs.OrderLaws.{prefix-append}
+use Rattle.names.proofs.AnswerLaws.{told, told-answered}
 use Rattle.names.proofs.IndexLaws.{key_in-index, key_in-back}
 use Rattle.names.proofs.SideLaws.{rest-is}
 use Rattle.names.proofs.TableLaws.{length-type_name, place_is, place-only, place_rest}
-
--- the key that an answer tells, if any
-abbrev told_key : Key → Option ℕ
-told_key (KeyAt k) = some k
-told_key Nothing = none
-
-told-answered : (x : Option ℕ) → told_key (answered x) ≡ x
-told-answered none = refl
-told-answered (some k) = refl
 
 -- what the device says of the object o at place i decides
 module _ (m : Model) (i : ℕ) (name : List ℕ) {o : ObjectType} {b : Bool} (f : o ≡ object_at i) (g : b ≡ has m.device o) where
@@ -41,7 +31,7 @@ module _ (m : Model) (i : ℕ) (name : List ℕ) {o : ObjectType} {b : Bool} (f 
   by-device = ap (λ (t : Bool). target_under m name (cond t (some i) none)) (sym (g ∙ ap (has m.device) f))
 
   -- the name of an object that the device has not leads nowhere
-  pub target-foreign : b ≡ false → target_under m name (on_model m (some i)) ≡ Unknown
+  pub target-foreign : b ≡ false → target_under m name (on_model m (some i)) ≡ Err NoObject
   target-foreign e = by-device ∙ ap (λ (t : Bool). target_under m name (cond t (some i) none)) e
 
   -- where the device has it, the rest of the name decides
@@ -49,11 +39,11 @@ module _ (m : Model) (i : ℕ) (name : List ℕ) {o : ObjectType} {b : Bool} (f 
   target-own e = by-device ∙ ap (λ (t : Bool). target_under m name (cond t (some i) none)) e
 
 -- what the key that the code finds in the octets s of a name says, where o is the object type at place i
-pub target_found : (m : Model) (i : ℕ) (s : List ℕ) {o : ObjectType} {r : Key} → o ≡ object_at i
+pub target_found : (m : Model) (i : ℕ) (s : List ℕ) {o : ObjectType} {r : Answer ℕ} → o ≡ object_at i
     → r ≡ answered (key_in m o.shape (subids (take (length s - 4 * (7 + o.len)) (drop (4 * (7 + o.len)) s))))
-    → target_at i (told_key r) ≡ target_at i (key_in m (object_at i).shape (rest_of i (subids s)))
+    → target_at i (told r) ≡ target_at i (key_in m (object_at i).shape (rest_of i (subids s)))
 target_found m i s {o} {r} f g =
-    ap (λ (x : Key). target_at i (told_key x)) g
+    ap (λ (x : Answer ℕ). target_at i (told x)) g
     ∙ ap (target_at i) (told-answered (key_in m o.shape (subids (take (length s - 4 * (7 + o.len)) (drop (4 * (7 + o.len)) s)))))
     ∙ ap (λ l. target_at i (key_in m o.shape l)) (ap subids (rest-is s (4 * (7 + o.len))) ∙ subids-drop (7 + o.len) s)
     ∙ (λ j. target_at i (key_in m (f j).shape (drop (7 + (f j).len) (subids s))))
@@ -66,11 +56,11 @@ place-fits s i e =
 
 -- what a target says of the name that leads to it
 abbrev pub Tells : Model → List ℕ → Target → Type 0
-Tells m name Unknown = Unit
-Tells m name (NoIndex i) = (i < object_count) × (has m.device (object_at i) ≡ true)
-Tells m name (At i k) =
-    (i < object_count) × (name ≡ instance_name (object_at i) k) × (can_have m (object_at i).shape (index (object_at i).shape k) ≡ true)
-    × (has m.device (object_at i) ≡ true)
+Tells m name (Err NoObject) = Unit
+Tells m name (Err (NoIndex i)) = (i < object_count) × (has m.device (object_at i) ≡ true)
+Tells m name (Ok t) =
+    (t.place < object_count) × (name ≡ instance_name (object_at t.place) t.key)
+    × (can_have m (object_at t.place).shape (index (object_at t.place).shape t.key) ≡ true) × (has m.device (object_at t.place) ≡ true)
 
 tells : (m : Model) (name : List ℕ) → m.ports ≤ 64 → Tells m name (target_in m name)
 tells m name few = go (place_of name) refl
@@ -101,7 +91,7 @@ target-tells m name few e = subst (Tells m name) (sym e) (tells m name few)
 
 -- the name of an instance that the bridge can have leads to it
 pub target-instance : (m : Model) (i k : ℕ) → i < object_count → can_have m (object_at i).shape (index (object_at i).shape k) ≡ true
-    → has m.device (object_at i) ≡ true → target_in m (instance_name (object_at i) k) ≡ At i k
+    → has m.device (object_at i) ≡ true → target_in m (instance_name (object_at i) k) ≡ Ok (instance i k)
 target-instance m i k l can own =
     let s : Shape = (object_at i).shape in
     let x : List ℕ = instance_name (object_at i) k in

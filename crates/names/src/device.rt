@@ -4,12 +4,10 @@ ghost use Rattle.names.specs.Devices.{is_device, device_under, has, type_of};
 
 use super::table::ObjectType;
 
+// Numbers, since a C host and a block's octet give any, and `is_device` judges them.
 pub const TRANSPARENT: u32 = 1;
 
 pub const SOURCE_ROUTING: u32 = 2;
-
-// What an object type says that every device has.
-pub const EVERY_DEVICE: u32 = 0;
 
 pub fn is_device(device: u32) -> bool
     ensures { result ≡ is_device device }
@@ -17,21 +15,24 @@ pub fn is_device(device: u32) -> bool
     (device == TRANSPARENT) | (device == SOURCE_ROUTING)
 }
 
-// The device that has the objects whose first sub-id under the root is this one.
-pub fn device_under(id: u32) -> u32
+// The only device that has the objects whose first sub-id under the root is this one; every device has those under 1.
+pub fn device_under(id: u32) -> Option<u32>
     ensures { result ≡ device_under id }
 {
     match id {
-        1 => EVERY_DEVICE,
-        3 => SOURCE_ROUTING,
-        _ => TRANSPARENT,
+        1 => None,
+        3 => Some(SOURCE_ROUTING),
+        _ => Some(TRANSPARENT),
     }
 }
 
 pub fn has_object(device: u32, o: ObjectType) -> bool
     ensures { result ≡ has device o }
 {
-    (o.device == EVERY_DEVICE) | (o.device == device)
+    match o.device {
+        None => true,
+        Some(only) => only == device,
+    }
 }
 
 // The value of Type.

@@ -1,12 +1,14 @@
 use mathlib.Core.Path.{◌≡◌, sym, ap, ◌∙◌}
 use mathlib.Core.Bool.{Bool, cond}
 use mathlib.Core.Option.{none, some}
+use Prim.Native.Nat.{ℕ}
 use native.Mathlib.Omega.{arith}
+use lib.ListN.{get_or}
 use Rattle.names.specs.SubIds.{subids}
-use Rattle.names.specs.Index.{bases, limit, key_in, answered}
+use Rattle.names.specs.Index.{bases, ranges, limit, key_in, answered}
 use Rattle.names.proofs.SubIdLaws.{subids-count}
 use Rattle.names.proofs.IndexLaws.{range-lt}
-use Rattle.names.proofs.IndexTurns.{Room, limit-size, ranges-length, within_none, within-some, key-none, key-start, key-room, key-low, key-high, key-on, key-end}
+use Rattle.names.proofs.IndexTurns.{Room, limit-size, ranges-length, within_none, within-some, key-none, key-start, key-room, range-contains, between, key-outside, key-on, key-end}
 use Rattle.identifiers.proofs.index.key_of.Goals as goal
 use Rattle.identifiers.proofs.index.key_of.Lts as lts
 use Rattle.identifiers.proofs.index.key_of.Reads as reads
@@ -19,29 +21,19 @@ returns-then-rest-n c =
 pub loop-i-init : goal.loop-i-init
 loop-i-init c =
     let a = c.args in
-    (omega arith, (limit-size a.shape).0, omega arith, key-start a.m a.shape (subids a.rest.now))
+    ((limit-size a.shape).0, omega arith, key-start a.m a.shape (subids a.rest.now))
 
-pub returns-then-x-range : goal.returns-then-x-range
-returns-then-x-range c =
+pub returns-then-not-contains : goal.returns-then-not-contains
+returns-then-not-contains c =
     let a = c.args in
     let l = c.loop-i in
-    let r = c.range_at-range.ensures in
     let n = ranges-length a.m a.shape in
+    let r = c.range_at.ensures in
+    let w = range-contains c.range_at.result _ _ c.be4-x.result r.low r.high r.whole c.contains.ensures.value in
     sym
     (ap answered
     (within_none a.m a.shape (subids a.rest.now)
-    (l.invariant.3 ∙ key-low _ _ _ l.i l.key _ (omega arith) (omega arith) c.be4-x.ensures (omega arith))))
-
-pub returns-then-range-x : goal.returns-then-range-x
-returns-then-range-x c =
-    let a = c.args in
-    let l = c.loop-i in
-    let r = c.range_at-range.ensures in
-    let n = ranges-length a.m a.shape in
-    sym
-    (ap answered
-    (within_none a.m a.shape (subids a.rest.now)
-    (l.invariant.3 ∙ key-high _ _ _ l.i l.key _ (omega arith) (omega arith) c.be4-x.ensures (omega arith))))
+    (l.invariant.2 ∙ key-outside _ _ _ l.i l.key _ (omega arith) (omega arith) c.be4-x.ensures (sym w ∙ c.if-not-contains.true))))
 
 -- a turn's digit finds room
 room : (c : goal.After-base_at)
@@ -55,9 +47,11 @@ room : (c : goal.After-base_at)
 room c =
     let a = c.args in
     let l = c.loop-i in
-    let r = c.range_at-range.ensures in
+    let r = c.range_at.ensures in
     let b = c.base_at.ensures in
-    key-room _ l.i _ l.key _ _ (omega arith) b (omega (arith, range-lt a.m a.shape l.i (omega arith) (omega arith))) l.invariant.1 l.invariant.2
+    let q : ℕ × ℕ = get_or (ranges a.m a.shape) l.i (0, 0) in
+    let w = between q.0 q.1 c.be4-x.result (range-contains c.range_at.result q.0 q.1 c.be4-x.result r.low r.high r.whole c.contains.ensures.value) c.if-not-contains.false in
+    key-room _ l.i _ l.key _ _ (omega arith) b (omega (arith, w, range-lt a.m a.shape l.i (omega arith) (omega arith))) l.invariant.0 l.invariant.1
 
 pub overflow_mul-key : goal.overflow_mul-key
 overflow_mul-key c = omega (arith, (room c).fits, (limit-size c.args.shape).1)
@@ -69,17 +63,18 @@ pub loop-i-preserved : goal.loop-i-preserved
 loop-i-preserved c =
     let a = c.args in
     let l = c.loop-i in
-    let r = c.range_at-range.ensures in
+    let r = c.range_at.ensures in
     let n = ranges-length a.m a.shape in
+    let q : ℕ × ℕ = get_or (ranges a.m a.shape) l.i (0, 0) in
+    let w = between q.0 q.1 c.be4-x.result (range-contains c.range_at.result q.0 q.1 c.be4-x.result r.low r.high r.whole c.contains.ensures.value) c.if-not-contains.false in
     let x = c.be4-x.ensures in (
-      omega arith,
       (room c).some_left,
       (room c).left,
-      l.invariant.3 ∙ key-on _ _ _ l.i l.key _ (omega arith) (omega arith) x _ (omega arith) c.base_at.ensures (omega arith) (omega arith),
+      l.invariant.2 ∙ key-on _ _ _ l.i l.key _ (omega arith) (omega arith) x _ (omega arith) c.base_at.ensures w.0 w.1,
     )
 
 -- the order of the index of the key that was found decides
-by_order : (c : lts.After-in_order tie.the-claims reads.Pre reads.Post goal.the-invariant-loop-i goal.the-decreases-loop-i)
+by_order : (c : lts.After-in_order tie.the-claims reads.Pre reads.Post goal.the-invariant-loop-i goal.the-decreases-loop-i tie.handed_clauses)
     → key_in
     c.args.m
     c.args.shape
@@ -91,7 +86,7 @@ by_order c =
     let n = ranges-length a.m a.shape in
     let s = subids-count a.rest.now in
     within-some a.m a.shape (subids a.rest.now) l.key (omega arith)
-    (l.invariant.3 ∙ key-end _ _ _ l.i l.key (omega arith) (omega arith) (omega arith))
+    (l.invariant.2 ∙ key-end _ _ _ l.i l.key (omega arith) (omega arith) (omega arith))
     ∙ ap (λ (b : Bool). cond b (some l.key) none) (sym c.in_order.ensures)
 
 pub returns-then-in_order : goal.returns-then-in_order

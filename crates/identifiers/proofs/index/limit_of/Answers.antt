@@ -7,17 +7,9 @@ pub returns-in-Scalar : goal.returns-in-Scalar
 unfolding weight
 returns-in-Scalar c = search rules
 
-pub returns-in-Port : goal.returns-in-Port
-unfolding weight
-returns-in-Port c = search rules
-
 pub returns-in-PortPriority : goal.returns-in-PortPriority
 unfolding weight
 returns-in-PortPriority c = search rules
-
-pub returns-in-Vlan : goal.returns-in-Vlan
-unfolding weight
-returns-in-Vlan c = search rules
 
 pub returns-in-Static : goal.returns-in-Static
 unfolding weight

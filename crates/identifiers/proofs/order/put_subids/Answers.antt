@@ -1,4 +1,4 @@
-use mathlib.Core.Path.{◌≡◌, refl, ap, ◌∙◌}
+use mathlib.Core.Path.{◌≡◌, ap, ◌∙◌}
 use mathlib.Core.List.{List, ◌++◌, append-nil}
 use Prim.Native.Nat.{ℕ, ◌≤◌, ◌<◌, ◌*◌, ◌+◌}
 use native.Mathlib.Omega.{arith}
@@ -29,18 +29,9 @@ turn s at l i h k =
 
 pub loop-i-init : goal.loop-i-init
 unfolding name_octets
-loop-i-init c = (omega arith, refl, patch-none _ _)
+loop-i-init c = patch-none _ _
 
 pub loop-i-preserved : goal.loop-i-preserved
 loop-i-preserved c =
-    let l = c.loop-i in
     let a = c.args in
-    (omega arith, omega arith, cc (turn a.s.now a.at a.ids.now l.i (omega arith) (omega arith)))
-
-pub shape_of-s : goal.shape_of-s
-shape_of-s c = c.loop-i.invariant.1
-
-pub returns : goal.returns
-returns c =
-    let e : c.loop-i.i ≡ c.args.n = omega arith in
-    cc
+    cc (turn a.s.now a.at a.ids.now c.loop-i.i (omega arith) (omega arith))

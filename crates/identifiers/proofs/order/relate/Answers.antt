@@ -1,37 +1,23 @@
-use mathlib.Core.Path.{refl, sym, ◌∙◌}
+-- `identifiers::order::relate` meets its contract. Assumes nothing.
+use mathlib.Core.Path.{◌≡◌, sym, ◌∙◌}
+use Prim.Native.Nat.{◌/◌, min}
 use native.Mathlib.Omega.{arith}
-use Rattle.names.proofs.RelationLaws.{turn-same, turn-prefix, turn-longer, turn_below, turn-above, turn_on}
+use lib.ListN.{length}
+use Rattle.names.proofs.RelationLaws.{turn_decides, turn_on, turn-last}
 use Rattle.identifiers.proofs.order.relate.Goals as goal
 
-pub loop-at-init : goal.loop-at-init
-loop-at-init c = (omega arith, omega arith, refl)
-
-pub returns-then-b-at-lt4 : goal.returns-then-b-at-lt4
-returns-then-b-at-lt4 c =
+pub returns-then-is_ne : goal.returns-then-is_ne
+returns-then-is_ne c =
     let a = c.args in
-    sym (c.loop-at.invariant.2 ∙ turn-longer a.a.now a.b.now c.loop-at.at (omega arith) (omega arith))
+    sym (c.loop-i.invariant ∙ turn_decides a.a.now a.b.now c.loop-i.i (omega (arith, c.min-i-end.ensures)) (omega (arith, c.min-i-end.ensures)) c.be4.ensures c.be4-in-loop-i.ensures c.cmp-order.ensures (sym c.is_ne.ensures ∙ c.if-is_ne.true))
 
-pub returns-then-x-y : goal.returns-then-x-y
-returns-then-x-y c =
+pub loop-i-preserved : goal.loop-i-preserved
+loop-i-preserved c =
     let a = c.args in
-    sym (c.loop-at.invariant.2 ∙ turn_below a.a.now a.b.now c.loop-at.at (omega arith) (omega arith) (omega arith))
-
-pub returns-then-y-x : goal.returns-then-y-x
-returns-then-y-x c =
-    let a = c.args in
-    sym (c.loop-at.invariant.2 ∙ turn-above a.a.now a.b.now c.loop-at.at (omega arith) (omega arith) (omega arith))
-
-pub loop-at-preserved : goal.loop-at-preserved
-loop-at-preserved c =
-    let a = c.args in
-    (omega arith, omega arith, c.loop-at.invariant.2 ∙ turn_on a.a.now a.b.now c.loop-at.at (omega arith) (omega arith) (omega arith))
-
-pub returns-then-b-at-lt4-2 : goal.returns-then-b-at-lt4-2
-returns-then-b-at-lt4-2 c =
-    let a = c.args in
-    sym (c.loop-at.invariant.2 ∙ turn-same a.a.now a.b.now c.loop-at.at (omega arith) (omega arith))
+    c.loop-i.invariant ∙ turn_on a.a.now a.b.now c.loop-i.i (omega (arith, c.min-i-end.ensures)) (omega (arith, c.min-i-end.ensures)) c.be4.ensures c.be4-in-loop-i.ensures c.cmp-order.ensures (sym c.is_ne.ensures ∙ c.if-is_ne.false)
 
 pub returns : goal.returns
 returns c =
     let a = c.args in
-    sym (c.loop-at.invariant.2 ∙ turn-prefix a.a.now a.b.now c.loop-at.at (omega arith) (omega arith))
+    let e : c.loop-i.i ≡ min (length a.a.now / 4) (length a.b.now / 4) = omega (arith, c.min-i-end.ensures) in
+    c.cmp.ensures ∙ sym (c.loop-i.invariant ∙ turn-last a.a.now a.b.now c.loop-i.i e)

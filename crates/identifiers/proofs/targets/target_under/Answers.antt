@@ -1,38 +1,17 @@
 -- `identifiers::targets::target_under` meets its contract: by whether the device has the object, and by the key that the rest of the name stands for. Assumes nothing.
-use mathlib.Core.Path.{sym, ap, ◌∙◌}
-use native.Mathlib.Omega.{arith}
+use mathlib.Core.Path.{sym, ◌∙◌}
 use Rattle.names.specs.SubIds.{subids}
-use Rattle.names.proofs.TableLaws.{short-at}
-use Rattle.names.proofs.TargetLaws.{target_found, target-own, target-foreign}
+use Rattle.names.proofs.TargetLaws.{target_found, target-own}
 use Rattle.identifiers.proofs.targets.target_under.Goals as goal
 
-pub overflow_add-at : goal.overflow_add-at
-overflow_add-at c =
-    omega (arith, short-at c.args.i, ap (λ o. o.len) c.object-o.ensures)
-
-pub overflow_mul-at : goal.overflow_mul-at
-overflow_mul-at c =
-    omega (arith, short-at c.args.i, ap (λ o. o.len) c.object-o.ensures)
-
-pub slice_bounds-key_of-count : goal.slice_bounds-key_of-count
-slice_bounds-key_of-count c = omega (arith, ap (λ o. o.len) c.object-o.ensures)
-
-pub slice_bounds-key_of-start : goal.slice_bounds-key_of-start
-slice_bounds-key_of-start c = omega (arith, ap (λ o. o.len) c.object-o.ensures)
-
-pub returns-in-At : goal.returns-in-At
-returns-in-At c =
+pub returns-in-Some : goal.returns-in-Some
+returns-in-Some c =
     let a = c.args in
-    target_found a.m a.i a.name.now c.object-o.ensures (sym c.in-At.is ∙ c.key_of-key.ensures)
+    target_found a.m a.i a.name.now c.object-o.ensures (sym c.in-Some.is ∙ c.key_of.ensures)
     ∙ sym (target-own a.m a.i (subids a.name.now) c.object-o.ensures c.has_object.ensures c.if-has_object.true)
 
-pub returns-in-Nothing : goal.returns-in-Nothing
-returns-in-Nothing c =
+pub returns-in-None : goal.returns-in-None
+returns-in-None c =
     let a = c.args in
-    target_found a.m a.i a.name.now c.object-o.ensures (sym c.in-Nothing.is ∙ c.key_of-key.ensures)
+    target_found a.m a.i a.name.now c.object-o.ensures (sym c.in-None.is ∙ c.key_of.ensures)
     ∙ sym (target-own a.m a.i (subids a.name.now) c.object-o.ensures c.has_object.ensures c.if-has_object.true)
-
-pub returns-else-has_object : goal.returns-else-has_object
-returns-else-has_object c =
-    let a = c.args in
-    sym (target-foreign a.m a.i (subids a.name.now) c.object-o.ensures c.has_object.ensures c.if-has_object.false)

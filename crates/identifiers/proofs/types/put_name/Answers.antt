@@ -7,11 +7,6 @@ use Rattle.names.proofs.InstanceLaws.{name-put}
 use borrow.Author.Rules.{rules}
 use Rattle.identifiers.proofs.types.put_name.Goals as goal
 
-pub put_subids-requires-2 : goal.put_subids-requires-2
-put_subids-requires-2 c =
-    let h : length c.args.o.prefix ≡ 6 = search rules in
-    (omega arith, omega arith)
-
 pub returns : goal.returns
 unfolding patch
 returns c =
