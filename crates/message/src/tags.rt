@@ -1,4 +1,4 @@
-// The tags of a message's fields.
+// The tags of a message's fields: octets, since `tag_allowed` and `content_length` answer for each octet that may arrive.
 pub const KIND_TAG: u8 = 0x01;
 
 pub const ID_TAG: u8 = 0x02;

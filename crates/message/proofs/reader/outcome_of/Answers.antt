@@ -1,47 +1,56 @@
-use mathlib.Core.Path.{◌≡◌, refl, sym, ap, subst, ◌∙◌}
+use mathlib.Core.Path.{◌≡◌, refl, sym, ap, ◌∙◌}
 use Prim.Native.Nat.{ℕ, ◌<◌, ◌≤◌}
 use native.Mathlib.Omega.{arith}
+use mathlib.Core.Bool.{Bool, true, false}
 use mathlib.Core.List.{List}
+use lib.Dec.{ltb}
 use lib.ListN.{length}
 use borrow.Author.Tests.{ltb-true, ltb-false}
 use denote.Bor.{Bor}
-use Rattle.message.specs.Request.{requests, head_of}
-use Rattle.message.specs.Walk.{begun_with, binding_more}
-use Rattle.message.specs.declared.request.Progress.{Progress}
-use Rattle.message.proofs.LoopLaws.{Left, left-begun, left-turn, left_end}
+use Rattle.std.proofs.Common.{rules}
+use Rattle.message.proofs.BindingLaws.{stands}
+use Rattle.message.proofs.LoopLaws.{head-refused, passed-more, passed-refused, passed-full, passed-all}
 use Rattle.message.proofs.reader.outcome_of.Goals as goal
 
--- what the calls say, of a result that is a variable
-begun-left : {s : List ℕ} {p : Progress} {at : ℕ} → p ≡ begun_with s (head_of requests s) → at ≡ p.next → Left s p at
-begun-left {s} {p} {at} e n = rw n (subst (λ (z : Progress). Left s z z.next) (sym e) (left-begun s (head_of requests s) refl))
+-- whether octets stand at the reader's place
+inside_lem : {s t : List ℕ} {at : ℕ} {b : Bool} → t ≡ s → b ≡ ltb at (length t) → b ≡ true → at < length s
+inside_lem {at = at} e h k = rw (← e) (ltb-true at _ (sym h ∙ k))
 
-turned-to : {s t : List ℕ} {at : ℕ} (p : Progress) {r : Progress} → t ≡ s → Left s p at → at < length s → r ≡ binding_more t at p → Left s r r.next × (at < r.next)
-turned-to {s} {t} {at} p {r} same w small e =
-    subst (λ (z : Progress). Left s z z.next × (at < z.next)) (sym (e ∙ ap (λ (u : List ℕ). binding_more u at p) same)) (left-turn p w small)
+past : {s t : List ℕ} {at : ℕ} {b : Bool} → t ≡ s → b ≡ ltb at (length t) → b ≡ false → length s ≤ at
+past {at = at} e h k = rw (← e) (ltb-false at _ (sym h ∙ k))
 
-pub loop-r-init : goal.loop-r-init
-loop-r-init c = (
-  ap (λ (b : Bor (List ℕ)). b.now) (c.moved-r.ensures.0 ∙ c.new.ensures.0),
-  begun-left c.begun-p.ensures c.moved-r.ensures.1,
-)
+pub returns-in_err-head : goal.returns-in_err-head
+returns-in_err-head c =
+    let e = head-refused c.args.s.now (rw c.new-reader.ensures.0 at c.in_err-head.ensures.read) in
+    rw (← e) (search rules)
 
--- the reader's place, in a turn
-small : (c : goal.After-moved-r-in-loop-r) → c.loop-r.r.at < length c.args.s.now
-small c = rw (← c.loop-r.invariant.0) (ltb-true _ _ (sym c.more.ensures ∙ c.loop-r-test.true))
+pub returns-then-count-eq-MOST_BINDINGS : goal.returns-then-count-eq-MOST_BINDINGS
+returns-then-count-eq-MOST_BINDINGS c =
+    let o = rw c.new-reader.ensures.0 at c.in_ok-head.ensures.read in
+    let w = c.loop-reader.invariant in
+    rw (c.seventeenth.ensures, w.0) (passed-full c.args.s.now o w.1 (omega (arith, c.if-count-eq-MOST_BINDINGS.true)) (inside_lem w.0 c.more.ensures c.loop-reader-test.true))
 
-turned : (c : goal.After-moved-r-in-loop-r) → Left c.args.s.now c.binding-p.result c.binding-p.result.next × (c.loop-r.r.at < c.binding-p.result.next)
-turned c = turned-to c.loop-r.p c.loop-r.invariant.0 c.loop-r.invariant.1 (small c) c.binding-p.ensures
+pub returns-in_err-binding : goal.returns-in_err-binding
+returns-in_err-binding c =
+    let o = rw c.new-reader.ensures.0 at c.in_ok-head.ensures.read in
+    let w = c.loop-reader.invariant in
+    let e = passed-refused c.args.s.now o w.1 (omega (arith, w.1.sofar.few, c.if-count-eq-MOST_BINDINGS.false)) (inside_lem w.0 c.more.ensures c.loop-reader-test.true) (rw w.0 at c.in_err-binding.ensures.place.0) in
+    rw (← e) (search rules)
 
-pub loop-r-smaller : goal.loop-r-smaller
-loop-r-smaller c = omega (arith, c.moved-r-in-loop-r.ensures.1, small c, (turned c).1)
+pub loop-reader-smaller : goal.loop-reader-smaller
+loop-reader-smaller c =
+    let w = c.loop-reader.invariant in
+    omega (arith, inside_lem w.0 c.more.ensures c.loop-reader-test.true, stands refl (c.in_ok-binding.ensures.place))
 
-pub loop-r-preserved : goal.loop-r-preserved
-loop-r-preserved c = (
-  ap (λ (b : Bor (List ℕ)). b.now) c.moved-r-in-loop-r.ensures.0 ∙ c.loop-r.invariant.0,
-  rw c.moved-r-in-loop-r.ensures.1 (turned c).0,
-)
+pub loop-reader-preserved : goal.loop-reader-preserved
+loop-reader-preserved c =
+    let w = c.loop-reader.invariant in (
+      ap (λ (b : Bor (List ℕ)). b.now) c.in_ok-binding.ensures.request ∙ w.0,
+      passed-more w.1 (omega (arith, w.1.sofar.few, c.if-count-eq-MOST_BINDINGS.false)) (inside_lem w.0 c.more.ensures c.loop-reader-test.true) (rw w.0 at c.in_ok-binding.ensures.place),
+    )
 
 pub returns : goal.returns
 returns c =
-    let over : length c.args.s.now ≤ c.loop-r.r.at = rw (← c.loop-r.invariant.0) (ltb-false _ _ (sym c.more.ensures ∙ c.loop-r-test.false)) in
-    c.outcome_in.ensures ∙ left_end c.loop-r.p c.loop-r.invariant.1 over
+    let o = rw c.new-reader.ensures.0 at c.in_ok-head.ensures.read in
+    let w = c.loop-reader.invariant in
+    passed-all c.args.s.now o w.1 (past w.0 c.more.ensures c.loop-reader-test.false)

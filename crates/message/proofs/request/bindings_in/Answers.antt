@@ -1,36 +1,23 @@
 use mathlib.Core.Path.{refl}
 use native.Mathlib.Omega.{arith}
-use Rattle.message.proofs.LoopLaws.{sofar-none, going, locating-more, locating-refused, located-whole, located-none, goes_on_lem}
+use Rattle.std.proofs.lemmas.List.{set-get_or}
+use Rattle.message.proofs.BindingLaws.{stands}
+use Rattle.message.proofs.LoopLaws.{sofar-more, located-all, located-refused, located-full}
 use Rattle.message.proofs.request.bindings_in.Goals as goal
+use Rattle.message.proofs.request.bindings_in.Goals.{else-loop-slot-test, then-loop-slot-test+in_default}
 
-pub loop-n-init : goal.loop-n-init
-loop-n-init c = going (sofar-none _ _)
-
-pub loop-n-smaller-in-Refused : goal.loop-n-smaller-in-Refused
-loop-n-smaller-in-Refused c = omega (arith, (goes_on_lem c.args.s.now c.loop-n.n c.loop-n.at c.loop-n-test.true).0)
-
-pub loop-n-preserved-in-Refused : goal.loop-n-preserved-in-Refused
-loop-n-preserved-in-Refused c =
-    locating-refused c.loop-n.invariant c.loop-n-test.true c.in-Refused.ensures refl
-
-pub offset_bounds-bindings-n : goal.offset_bounds-bindings-n
-offset_bounds-bindings-n c = omega (arith, (goes_on_lem c.args.s.now c.loop-n.n c.loop-n.at c.loop-n-test.true).0)
-
-pub bounds-bindings-n : goal.bounds-bindings-n
-bounds-bindings-n c = omega (arith, (goes_on_lem c.args.s.now c.loop-n.n c.loop-n.at c.loop-n-test.true).0)
-
-pub overflow_add-n : goal.overflow_add-n
-overflow_add-n c = omega (arith, (goes_on_lem c.args.s.now c.loop-n.n c.loop-n.at c.loop-n-test.true).0)
-
-pub loop-n-smaller : goal.loop-n-smaller
-loop-n-smaller c = omega (arith, (goes_on_lem c.args.s.now c.loop-n.n c.loop-n.at c.loop-n-test.true).0)
-
-pub loop-n-preserved : goal.loop-n-preserved
-loop-n-preserved c =
-    locating-more c.loop-n.invariant c.loop-n-test.true c.in-Bound.ensures refl
+pub loop-slot-preserved : goal.loop-slot-preserved
+loop-slot-preserved c =
+    sofar-more c.loop-slot.invariant {b = c.in-Ok.bound.binding} {next = c.in-Ok.bound.next} (omega (arith, c.loop-slot-test.true)) (omega (arith, stands c.in-Ok.ensures refl)) c.in-Ok.ensures refl
 
 pub returns-then-at-s : goal.returns-then-at-s
-returns-then-at-s c = located-none c.loop-n.invariant c.loop-n-test.false (omega arith)
+returns-then-at-s c = elim c.loop-slot-test.branch [
+  | else-loop-slot-test w ↦ located-full c.loop-slot.invariant (omega (arith, w.loop-slot-test.false)) (omega arith)
+  | then-loop-slot-test+in_default w ↦ located-refused c.loop-slot.invariant (omega (arith, w.loop-slot-test.true)) (omega arith) w.binding_at.ensures w.in_default.not-Ok
+]
 
 pub returns-else-at-s : goal.returns-else-at-s
-returns-else-at-s c = located-whole c.loop-n.invariant (omega arith)
+returns-else-at-s c = elim c.loop-slot-test.branch [
+  | else-loop-slot-test w ↦ rw w.bindings-is (located-all c.loop-slot.invariant (omega arith))
+  | then-loop-slot-test+in_default w ↦ rw (w.bindings-is, set-get_or) (located-all c.loop-slot.invariant (omega arith))
+]

@@ -1,9 +1,0 @@
--- `message::form::in_range` meets its contract. Assumes nothing.
-use borrow.Author.Tests.{le-leb, lt-leb}
-use Rattle.message.proofs.form.in_range.Goals as goal
-
-pub returns-then-x-low : goal.returns-then-x-low
-returns-then-x-low c = rw (lt-leb _ _ c.if-x-low.true)
-
-pub returns : goal.returns
-returns c = rw (le-leb _ _ c.if-x-low.false)
