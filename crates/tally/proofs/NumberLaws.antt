@@ -2,25 +2,20 @@
 use mathlib.Core.Path.{◌≡◌, refl}
 use Prim.Native.Nat.{ℕ, ◌<◌}
 use native.Mathlib.Omega.{arith}
-use mathlib.Core.Bool.{Bool, true, false, cond, not, or-true}
-use mathlib.Core.List.{List}
-use lib.Dec.{eqb, leb}
-use borrow.Author.Tests.{eqb-true, leb-false, ne_eqb, not-false}
+use mathlib.Core.Bool.{Bool, true, false, cond, not}
+use mathlib.Core.List.{List, [], ◌∷◌}
+use lib.Dec.{eqb}
+use borrow.Author.Tests.{eqb-true, not-false}
 use Rattle.tally.specs.declared.RbCase.{RbCase}
-use Rattle.tally.specs.Codes.{event_start, event_fail, mark_set, refused_unknown, refused_start, refused_verdict, refused_ended, refused_run}
+use Rattle.tally.specs.Codes.{state_not_run, event_start, mark_set, refused_unknown, refused_start, refused_verdict, refused_ended, refused_run}
 use Rattle.tally.specs.Run.{some_if, has_id, running, legal_run, event_judged, unknown, not_startable, none_running, state_of, number}
-use Rattle.octets.proofs.BoolLaws.{by_bool}
+use Rattle.octets.proofs.BoolLaws.{by_bool, not-both-ways}
 
--- where the id is not listed, no number depends on a state
-unlisted : (ok : Bool) (m event : ℕ) (runs : Bool) (a b : ℕ) → event_judged ok m event false runs a ≡ event_judged ok m event false runs b
-unfolding event_judged unknown not_startable none_running
-unlisted ok m event runs a b =
-    by_bool (leb event event_fail) (λ t. rw (t, or-true))
-    (λ t. let l = leb-false event event_fail t in let n : eqb event event_start ≡ false = ne_eqb event event_start (λ e. omega (arith, l, e)) in rw (t, n))
-
-pub judged-same : (ok : Bool) (m event : ℕ) (listed runs : Bool) (a b : ℕ) → (listed ≡ true → a ≡ b) → event_judged ok m event listed runs a ≡ event_judged ok m event listed runs b
-judged-same ok m event true runs a b e = rw (e refl)
-judged-same ok m event false runs a b e = unlisted ok m event runs a b
+-- a case that is not listed counts as not run
+pub unlisted : (id : ℕ) (cs : List RbCase) → some_if (has_id id) cs ≡ false → state_of id cs ≡ state_not_run
+unfolding some_if state_of
+unlisted id [] e = refl
+unlisted id (c ∷ cs) e = by_bool (has_id id c) (λ t. not-both-ways refl (rw t at e)) (λ t. rw t (unlisted id cs (rw t at e)))
 
 -- an accepted event has none of the faults
 pub record Accepted (ok : Bool) (m event : ℕ) (listed runs : Bool) (state : ℕ) : Type 0 where

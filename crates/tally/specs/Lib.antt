@@ -1,4 +1,5 @@
 pub mod Codes
+pub mod Refusals
 pub mod Run
 pub mod Scan
 pub mod History

@@ -1,4 +1,4 @@
-// The longest list, and the numbers of states, events and refusals, as include/refbridge.h has them.
+// The longest list, and the numbers of states and events, as include/refbridge.h has them.
 pub const MOST_CASES: usize = 65535;
 
 // The state of a case.
@@ -28,15 +28,5 @@ pub const MARK_CLEAR: u8 = 0;
 
 pub const MARK_SET: u8 = 1;
 
-// Numbers of an event.
+// The number of an event that is accepted, and of a report.
 pub const ACCEPTED: u32 = 0;
-
-pub const REFUSED_UNKNOWN: u32 = 11;
-
-pub const REFUSED_START: u32 = 12;
-
-pub const REFUSED_VERDICT: u32 = 13;
-
-pub const REFUSED_ENDED: u32 = 14;
-
-pub const REFUSED_RUN: u32 = 15;

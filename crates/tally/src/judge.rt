@@ -1,15 +1,15 @@
 // What a pass over the list means for an event and for a report.
-ghost use Rattle.std.specs.Prelude.{◌≡◌, cond, eqb};
-ghost use Rattle.tally.specs.Codes.{event_start, accepted};
-ghost use Rattle.tally.specs.Run.{unknown, not_startable, none_running, event_judged, mark_fits, state_after, mark_after};
-ghost use Rattle.tally.specs.Scan.{number_of, plan_of, mark_of, report_of};
+ghost use Rattle.std.specs.Prelude.{◌≡◌, IfOk};
+ghost use Rattle.tally.specs.Refusals.{number_in};
+ghost use Rattle.tally.specs.Run.{unknown, not_startable, none_running, mark_fits, state_after};
+ghost use Rattle.tally.specs.Scan.{legal_of, state_found, number_found, place_of, write_of, mark_of, report_of};
 
 use super::codes::{
     ACCEPTED, EVENT_CRASH, EVENT_END, EVENT_FAIL, EVENT_PASS, EVENT_START, MARK_CLEAR, MARK_SET,
-    REFUSED_ENDED, REFUSED_RUN, REFUSED_START, REFUSED_UNKNOWN, REFUSED_VERDICT, STATE_BROKEN,
-    STATE_NOT_RUN, STATE_RUNNING,
+    STATE_BROKEN, STATE_NOT_RUN, STATE_RUNNING,
 };
-use super::steps::Scan;
+use super::refusals::Refused;
+use super::steps::{Found, Scan};
 
 // How many cases are in each class.
 #[repr(C)]
@@ -22,11 +22,9 @@ pub struct RbReport {
     pub not_run: u32,
 }
 
-// What an event does: its number, and which record gets which state, if one does.
-#[derive(Drop)]
-pub struct Plan {
-    pub number: u32,
-    pub writes: bool,
+// Which record gets which state.
+#[derive(Clone, Copy, Debug, PartialEq, Eq)]
+pub struct Write {
     pub at: usize,
     pub state: u32,
 }
@@ -36,6 +34,12 @@ fn mark_fits(mark: u8, runs: bool) -> bool
     ensures { result ≡ mark_fits mark runs }
 {
     (mark == MARK_CLEAR) | ((mark == MARK_SET) & !runs)
+}
+
+fn is_legal(s: &Scan, mark: u8) -> bool
+    ensures { result ≡ legal_of s.now mark }
+{
+    s.good & mark_fits(mark, s.runner.is_some())
 }
 
 // 11: an event or an id that is not known.
@@ -60,47 +64,43 @@ fn none_running(event: u32, runs: bool, state: u32) -> bool
         & (!runs | ((event <= EVENT_FAIL) & !(state == STATE_RUNNING)))
 }
 
-// The number, judged 15, 14, 11, 12, 13.
-fn judge_event(legal: bool, mark: u8, event: u32, listed: bool, runs: bool, state: u32) -> u32
-    ensures { result ≡ event_judged legal mark event listed runs state }
+// A case that is not listed is not run.
+fn state_found(found: Option<Found>) -> u32
+    ensures { result ≡ state_found found }
 {
-    if !legal {
-        return REFUSED_RUN;
-    }
-    if mark == MARK_SET {
-        return REFUSED_ENDED;
-    }
-    if is_unknown(event, listed) {
-        return REFUSED_UNKNOWN;
-    }
-    if not_startable(event, runs, state) {
-        return REFUSED_START;
-    }
-    if none_running(event, runs, state) {
-        return REFUSED_VERDICT;
-    }
-    ACCEPTED
+    found.map_or(STATE_NOT_RUN, |f| f.state)
 }
 
-fn number_of(s: Scan, mark: u8, event: u32) -> u32
-    ensures { result ≡ number_of s mark event }
+// Judged 15, 14, 11, 12, 13.
+fn judge_event(s: &Scan, mark: u8, event: u32) -> Result<(), Refused>
+    ensures { number_in result ≡ number_found s.now mark event }
 {
-    judge_event(
-        s.good & mark_fits(mark, s.runs),
-        mark,
-        event,
-        s.found,
-        s.runs,
-        s.state,
-    )
+    let runs = s.runner.is_some();
+    let state = state_found(s.found);
+    if !is_legal(s, mark) {
+        return Err(Refused::Run);
+    }
+    if mark == MARK_SET {
+        return Err(Refused::Ended);
+    }
+    if is_unknown(event, s.found.is_some()) {
+        return Err(Refused::Unknown);
+    }
+    if not_startable(event, runs, state) {
+        return Err(Refused::Start);
+    }
+    if none_running(event, runs, state) {
+        return Err(Refused::Verdict);
+    }
+    Ok(())
 }
 
 // A start writes where its id stands, another event where the running case stands.
-fn place_of(s: Scan, event: u32) -> usize
-    ensures { result ≡ cond (eqb event event_start) s.place s.runner }
+fn place_of(s: &Scan, event: u32) -> Option<usize>
+    ensures { result ≡ place_of s.now event }
 {
     if event == EVENT_START {
-        return s.place;
+        return s.found.map(|f| f.place);
     }
     s.runner
 }
@@ -115,34 +115,24 @@ fn state_after(event: u32) -> u32
     STATE_BROKEN
 }
 
-fn mark_after(number: u32, mark: u8, event: u32) -> u8
-    ensures { result ≡ cond (eqb number accepted) (mark_after event mark) mark }
+// Judges an event, sets the mark for an accepted end, and tells what is written, if anything is.
+pub fn decide(ended: &mut u8, s: &Scan, event: u32) -> Result<Option<Write>, Refused>
+    ensures number { number_in result ≡ number_found s.now ended.old event }
+    ensures write { IfOk result (λ w. w ≡ write_of s.now event) }
+    ensures mark { ended.new ≡ mark_of s.now ended.old event }
 {
-    if (number == ACCEPTED) & (event == EVENT_END) {
-        return MARK_SET;
+    judge_event(s, *ended, event)?;
+    if event == EVENT_END {
+        *ended = MARK_SET;
     }
-    mark
+    let state = state_after(event);
+    Ok(place_of(s, event).map(|at| Write { at, state }))
 }
 
-// Judges an event, and sets the mark for an accepted end.
-pub fn decide(ended: &mut u8, s: Scan, event: u32) -> Plan
-    ensures { (result ≡ plan_of s ended.old event) × (ended.new ≡ mark_of s ended.old event) }
+pub fn reported(s: &Scan, mark: u8) -> RbReport
+    ensures { result ≡ report_of s.now mark }
 {
-    let mark = *ended;
-    let number = number_of(s, mark, event);
-    *ended = mark_after(number, mark, event);
-    Plan {
-        number: number,
-        writes: (number == ACCEPTED) & ((event == EVENT_START) | s.runs),
-        at: place_of(s, event),
-        state: state_after(event),
-    }
-}
-
-pub fn reported(s: Scan, mark: u8) -> RbReport
-    ensures { result ≡ report_of s mark }
-{
-    if s.good & mark_fits(mark, s.runs) {
+    if is_legal(s, mark) {
         return RbReport {
             number: ACCEPTED,
             passed: s.passed,
@@ -152,7 +142,7 @@ pub fn reported(s: Scan, mark: u8) -> RbReport
         };
     }
     RbReport {
-        number: REFUSED_RUN,
+        number: u32::from(Refused::Run),
         passed: 0,
         failed: 0,
         broken: 0,

@@ -1,6 +1,6 @@
-// The run tally: a lent list of case records and a lent mark, fed with events one at a time. The list is a slice of structs, so the functions that
-// touch it are few: `scan` reads every record once and `put_state` writes one state. Everything else is on numbers: what a record adds to the pass
-// (steps), and what the pass means for an event and for a report (judge). The exported calls join them (refbridge's `tallies`).
+// The run tally: a lent list of case records and a lent mark, fed with events one at a time. `scan` reads every record once and `put_state` writes
+// one state. What a record adds to the pass is in steps, and what the pass means for an event and for a report in judge. The exported calls join
+// them (refbridge's `tallies`).
 #![tactic(auto)]
 
 ghost use Rattle.std.specs.Prelude.{◌≡◌};
@@ -8,8 +8,10 @@ ghost use Rattle.tally.specs.Scan.{scanned, at_write};
 
 pub mod codes;
 pub mod judge;
+pub mod refusals;
 pub mod steps;
 
+use judge::Write;
 use steps::{Scan, begin, step};
 
 // A case: its id and its state.
@@ -25,19 +27,19 @@ pub fn scan(cases: &[RbCase], sought: u32) -> Scan
     ensures { result ≡ scanned sought cases.now }
 {
     let mut s = begin();
-    let mut i = 0;
-    while i < cases.len() {
-        s = step(s, sought, i, cases[i].id, cases[i].state);
-        i += 1;
+    for (i, case) in cases.iter().enumerate() {
+        s = step(s, sought, i, case);
     }
     s
 }
 
 // Writes one state, where that is asked for and there is such a record.
-pub fn put_state(cases: &mut [RbCase], writes: bool, at: usize, state: u32)
-    ensures { cases.new ≡ at_write writes at state cases.old }
+pub fn put_state(cases: &mut [RbCase], write: Option<Write>)
+    ensures { cases.new ≡ at_write write cases.old }
 {
-    if writes & (at < cases.len()) {
-        cases[at].state = state;
+    if let Some(w) = write {
+        if w.at < cases.len() {
+            cases[w.at].state = w.state;
+        }
     }
 }

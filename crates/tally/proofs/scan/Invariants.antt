@@ -1,10 +1,7 @@
 -- `tally::scan` meets its contract: the rest of the pass from here gives the whole pass. Assumes nothing.
-use Rattle.std.proofs.Common.{◌≡◌, ◌≤◌, ◌-◌, length, drop}
+use Rattle.std.proofs.Common.{◌≡◌, drop}
 use Rattle.tally.specs.Scan.{scan_from, scanned}
 use Rattle.tally.proofs.scan.Given as goal
 
 abbrev pub invariant-loop-i : goal.invariant-loop-i
-invariant-loop-i l = (l.i ≤ length l.cases) × (scan_from l.sought l.i l.s (drop l.i l.cases) ≡ scanned l.sought l.cases)
-
-abbrev pub decreases-loop-i : goal.decreases-loop-i
-decreases-loop-i l = length l.cases - l.i
+invariant-loop-i l = scan_from l.sought l.i l.s (drop l.i l.cases) ≡ scanned l.sought l.cases

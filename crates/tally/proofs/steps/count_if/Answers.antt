@@ -4,7 +4,6 @@ use native.Mathlib.Omega.{arith}
 use lib.Dec.{ltb}
 use borrow.Author.Tests.{ltb-true}
 use Rattle.tally.specs.Codes.{most_cases}
-use Rattle.tally.specs.Scan.{more}
 use Rattle.octets.proofs.BoolLaws.{right_of}
 use Rattle.tally.proofs.steps.count_if.Goals as goal
 
@@ -15,9 +14,7 @@ overflow_add-result c =
     omega arith
 
 pub returns-then-hit-n : goal.returns-then-hit-n
-unfolding more
 returns-then-hit-n c = rw c.if-hit-n.true
 
 pub returns : goal.returns
-unfolding more
 returns c = rw c.if-hit-n.false
