@@ -12,9 +12,8 @@ use Rattle.octets.specs.Numbers.{be_at}
 use Rattle.octets.proofs.BoolLaws.{by_bool, by-eq}
 use Rattle.block.specs.Layout.{most_rows}
 use Rattle.block.specs.Rows.{rows_at}
-use Rattle.block.specs.Lookup.{find_key, Ascending, middle, one_more, halve, halving}
-use Rattle.block.specs.declared.rows.Place.{Place}
-use Rattle.block.specs.declared.rows.Place.TheVariants.{At, Absent}
+use Rattle.block.specs.Lookup.{Place, find_key, Ascending, middle, one_more, halve, halving}
+use Rattle.std.specs.Prelude.{Ok, Err}
 use Rattle.block.proofs.FindLaws.{Before, Told, told}
 
 -- the keys of w octets that n rows start with
@@ -49,20 +48,20 @@ module _ (k : ℕ) (ks : List ℕ) where
         (λ t. rw t (omega arith, b, λ q. let e : low ≡ high = omega (arith, ltb-false low high t) in rw e (u (omega arith))))
 
   -- a place is told in one way
-  at-absent : (i j : ℕ) → Told k ks (At i) → Told k ks (Absent j) → ⊥
+  at-absent : (i j : ℕ) → Told k ks (Ok i) → Told k ks (Err j) → ⊥
   at-absent i j s t =
       by_bool (ltb i j) (λ l. omega (arith, t.1 i (ltb-true i j l), s.2))
       (λ l. by-eq i j (λ e. omega (arith, subst (λ (x : ℕ). k < get_or ks x 0) (sym e) (t.2 (omega arith)), s.2))
       (λ e. omega (arith, s.1 j (omega (arith, ltb-false i j l)), t.2 (omega (arith, ltb-false i j l)))))
 
   one_place : (p q : Place) → Told k ks p → Told k ks q → p ≡ q
-  one_place (At i) (At j) s t =
-      ap At (by-eq i j (λ e. e) (λ e. absurd (by_bool (ltb i j) (λ l. omega (arith, t.1 i (ltb-true i j l), s.2))
+  one_place (Ok i) (Ok j) s t =
+      ap Ok (by-eq i j (λ e. e) (λ e. absurd (by_bool (ltb i j) (λ l. omega (arith, t.1 i (ltb-true i j l), s.2))
       (λ l. omega (arith, s.1 j (omega (arith, ltb-false i j l)), t.2)))))
-  one_place (At i) (Absent j) s t = absurd (at-absent i j s t)
-  one_place (Absent i) (At j) s t = absurd (at-absent j i t s)
-  one_place (Absent i) (Absent j) s t =
-      ap Absent (by-eq i j (λ e. e) (λ e. absurd (by_bool (ltb i j)
+  one_place (Ok i) (Err j) s t = absurd (at-absent i j s t)
+  one_place (Err i) (Ok j) s t = absurd (at-absent j i t s)
+  one_place (Err i) (Err j) s t =
+      ap Err (by-eq i j (λ e. e) (λ e. absurd (by_bool (ltb i j)
       (λ l. omega (arith, t.1 i (ltb-true i j l), s.2 (omega (arith, ltb-true i j l))))
       (λ l. omega (arith, s.1 j (omega (arith, ltb-false i j l)), t.2 (omega (arith, ltb-false i j l)))))))
 
@@ -101,7 +100,7 @@ plus_one : (c : ℕ) (r : Place × ℕ) → plus c (one_more r) ≡ plus (c + 1)
 plus_one c r = let e : r.1 + 1 + c ≡ r.1 + (c + 1) = omega arith in λ z. (r.0, e z)
 
 module _ (k : ℕ) (ks : List ℕ) where
-  halve-end : (n low high : ℕ) → high ≤ low → halve n k low high ks ≡ (Absent low, 0)
+  halve-end : (n low high : ℕ) → high ≤ low → halve n k low high ks ≡ (Err low, 0)
   unfolding halve
   halve-end zero low high h = refl
   halve-end (suc n) low high h = rw (le-ltb low high h)
@@ -109,7 +108,7 @@ module _ (k : ℕ) (ks : List ℕ) where
   -- one turn
   abbrev next : ℕ → ℕ → ℕ → Place × ℕ
   next n low high =
-      cond (eqb (get_or ks (middle low high) 0) k) (At (middle low high), 0)
+      cond (eqb (get_or ks (middle low high) 0) k) (Ok (middle low high), 0)
       (cond (ltb k (get_or ks (middle low high) 0)) (halve n k low (middle low high) ks) (halve n k (middle low high + 1) high ks))
 
   halve-turn : (n low high : ℕ) → low < high → halve (suc n) k low high ks ≡ one_more (next n low high)
@@ -130,10 +129,10 @@ module _ (k : ℕ) (ks : List ℕ) where
       record { inside = (omega arith, omega arith); fewer = omega arith; whole = rw e (λ z. (r.0, f z)) }
 
   module _ {low high c : ℕ} (w : Left low high c) where
-    pub left_end : high ≤ low → (Absent low, c) ≡ halving k ks
+    pub left_end : high ≤ low → (Err low, c) ≡ halving k ks
     left_end h =
         let e : 0 + c ≡ c = omega arith in
-        sym (w.whole ∙ ap (plus c) (halve-end (length ks - c) low high h) ∙ (λ z. (Absent low, e z)))
+        sym (w.whole ∙ ap (plus c) (halve-end (length ks - c) low high h) ∙ (λ z. (Err low, e z)))
 
     module _ (h : low < high) where
       turn : halving k ks ≡ plus (c + 1) (next (length ks - (c + 1)) low high)
@@ -144,10 +143,10 @@ module _ (k : ℕ) (ks : List ℕ) where
           ∙ ap (plus c) (halve-turn (length ks - (c + 1)) low high h)
           ∙ plus_one c (next (length ks - (c + 1)) low high)
 
-      pub left-found : get_or ks (middle low high) 0 ≡ k → (At (middle low high), c + 1) ≡ halving k ks
+      pub left-found : get_or ks (middle low high) 0 ≡ k → (Ok (middle low high), c + 1) ≡ halving k ks
       left-found e =
           let q : 0 + (c + 1) ≡ c + 1 = omega arith in
-          sym (turn ∙ rw (eq-eqb (get_or ks (middle low high) 0) k e) (λ z. (At (middle low high), q z)))
+          sym (turn ∙ rw (eq-eqb (get_or ks (middle low high) 0) k e) (λ z. (Ok (middle low high), q z)))
 
       pub left_below : (get_or ks (middle low high) 0 ≡ k → ⊥) → k < get_or ks (middle low high) 0 → Left low (middle low high) (c + 1)
       left_below n l =

@@ -45,10 +45,13 @@ module _ (vs : List (ℕ × VlanRow)) (i : ℕ) (h : i < length vs) where
   active-at : active_vlans vs ≡ active_vlans (take i vs) + (was + active_vlans (drop (suc i) vs))
   active-at = ap active_vlans (split_at vs i no_vlan h) ∙ active-with (take i vs) (get_or vs i no_vlan) (drop (suc i) vs)
 
-  -- a row written anew
-  pub active-put : (e : ℕ × VlanRow) → active_vlans (set vs i e) ≡ exchanged (active_vlans vs) (get_or vs i no_vlan).1.status e.1.status
-  active-put e =
-      ap active_vlans (set_split vs i e h) ∙ active-with (take i vs) e (drop (suc i) vs) ∙ omega (arith, active-at)
+  -- a row written anew, when the old one is no longer counted
+  pub active-again : (e : ℕ × VlanRow) → active_vlans (set vs i e) ≡ exchanged (active_vlans (remove_at vs i)) 0 e.1.status
+  unfolding remove_at
+  active-again e =
+      ap active_vlans (set_split vs i e h)
+      ∙ active-with (take i vs) e (drop (suc i) vs)
+      ∙ omega (arith, active-append (take i vs) (drop (suc i) vs))
 
   -- a row taken out
   pub active-out : active_vlans (remove_at vs i) ≡ exchanged (active_vlans vs) (get_or vs i no_vlan).1.status 0

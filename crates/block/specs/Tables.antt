@@ -1,15 +1,15 @@
 -- The growing tables (paper 01, "Rows that come and go", and E12): where each stands in a block, its rows in a content, and how many it has room for. Assumes nothing.
-use Rattle.std.specs.Prelude.{ℕ, ◌+◌, ◌*◌, ◌^◌, Bool, cond, List, eqb}
+use Rattle.std.specs.Prelude.{ℕ, ◌+◌, ◌*◌, ◌^◌, Bool, cond, List, eqb, set}
 use Rattle.octets.specs.Numbers.{be_at, be_octets}
 use Rattle.octets.specs.Parts.{patch}
 use Rattle.names.specs.Devices.{transparent, source_routing}
 use Rattle.names.specs.declared.Shape.{Shape}
 use Rattle.names.specs.declared.Shape.TheVariants.{Vlan, Static, Pair}
 use Rattle.block.specs.Layout.{most_rows, at_vlan_count, at_static_count, at_pair_count, at_vlan_total, at_vlans, vlan_width, vlan_key, at_statics, static_width, static_key, most_pairs, at_pairs, pair_width, pair_key}
-use Rattle.block.specs.Rows.{remove_at}
+use Rattle.block.specs.Rows.{insert_at, remove_at}
 use Rattle.block.specs.Content.{Content, with_vlans, with_statics, with_pairs}
-use Rattle.block.specs.Lookup.{exchanged}
-use Rattle.block.specs.Image.{vlan_at}
+use Rattle.block.specs.Lookup.{exchanged, no_vlan, no_static, no_pair}
+use Rattle.block.specs.Image.{vlan_at, static_at, pair_at, vlan_octets, static_octets, pair_octets}
 use Rattle.block.specs.declared.rows.VlanRow.{VlanRow}
 use Rattle.block.specs.declared.rows.StaticRow.{StaticRow}
 use Rattle.block.specs.declared.rows.PairRow.{PairRow}
@@ -43,6 +43,22 @@ with_rows vlan c rs = with_vlans c rs
 with_rows static c rs = with_statics c rs
 with_rows pair c rs = with_pairs c rs
 
+-- a row and its key in octets, read from an index on, and what stands past a table's end
+abbrev pub octets_of : (t : Table) → ℕ × Row t → List ℕ
+octets_of vlan = vlan_octets
+octets_of static = static_octets
+octets_of pair = pair_octets
+
+abbrev pub entry_at : (t : Table) → List ℕ → ℕ → ℕ × Row t
+entry_at vlan = vlan_at
+entry_at static = static_at
+entry_at pair = pair_at
+
+abbrev pub no_row : (t : Table) → ℕ × Row t
+no_row vlan = no_vlan
+no_row static = no_static
+no_row pair = no_pair
+
 -- the shape of a table's indexes
 abbrev pub shape_of : Table → Shape
 shape_of vlan = Vlan
@@ -69,7 +85,13 @@ deletes_room d = cond (has_table d vlan) (2 ^ 32) 1
 abbrev pub end_of : Table → List ℕ → ℕ
 end_of t b = (standing t).rows + be_at b (standing t).count 4 * (standing t).width
 
--- the row at place i taken out
+-- a row put in at place i, the row there written anew, and taken out
+abbrev pub row_in : (t : Table) → Content → ℕ → ℕ × Row t → Content
+row_in t c i e = with_rows t c (insert_at (rows_of t c) i e)
+
+abbrev pub row_put : (t : Table) → Content → ℕ → ℕ × Row t → Content
+row_put t c i e = with_rows t c (set (rows_of t c) i e)
+
 abbrev pub row_out : (t : Table) → Content → ℕ → Content
 row_out t c i = with_rows t c (remove_at (rows_of t c) i)
 
@@ -78,3 +100,9 @@ unfoldable pub uncounted : Table → List ℕ → ℕ → List ℕ
 uncounted vlan b i = patch b at_vlan_total (be_octets 2 (exchanged (be_at b at_vlan_total 2) (vlan_at b (at_vlans + i * vlan_width)).1.status 0))
 uncounted static b i = b
 uncounted pair b i = b
+
+-- and when a row that was not counted is
+unfoldable pub counted : (t : Table) → List ℕ → Row t → List ℕ
+counted vlan b r = patch b at_vlan_total (be_octets 2 (exchanged (be_at b at_vlan_total 2) 0 r.status))
+counted static b r = b
+counted pair b r = b

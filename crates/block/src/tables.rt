@@ -12,12 +12,10 @@ use super::layout::{
     AT_PAIR_COUNT, AT_PAIRS, AT_STATIC_COUNT, AT_STATICS, AT_VLAN_COUNT, AT_VLANS, MOST_PAIRS,
     MOST_ROWS, PAIR_KEY, PAIR_WIDTH, STATIC_KEY, STATIC_WIDTH, VLAN_KEY, VLAN_WIDTH,
 };
-use super::rows::Place;
-use names::Key;
 use names::device::{SOURCE_ROUTING, TRANSPARENT};
 use octets::numbers::{be, be4};
 
-#[derive(Clone, Copy, Drop)]
+#[derive(Clone, Copy, Debug, PartialEq, Eq)]
 pub enum Table {
     Vlan,
     Static,
@@ -25,20 +23,13 @@ pub enum Table {
 }
 
 // Where a table stands: the offset of its row count and of its first row, how many octets a row and a row's key have, and how many rows there is room for.
-#[derive(Drop)]
+#[derive(Clone, Copy, Debug, PartialEq, Eq)]
 pub struct Standing {
     pub count: usize,
     pub rows: usize,
     pub width: usize,
     pub key: usize,
     pub most: usize,
-}
-
-// A lookup: where a key stands, and how many rows it was compared with.
-#[derive(Drop)]
-struct Search {
-    place: Place,
-    compared: usize,
 }
 
 pub fn standing_of(t: Table) -> Standing
@@ -135,23 +126,21 @@ pub fn row_key(block: &[u8], t: Table, i: usize) -> u64
     be(block, at.rows + i * at.width, at.key)
 }
 
-// Where a key of w octets stands among n rows, and how many of them it was compared with.
-fn find(block: &[u8], at: usize, n: usize, width: usize, w: usize, key: u64) -> Search
-    requires { (at + n * width ≤ length block.now) × (w ≤ width) × (w ≤ 8) }
-    ensures { (result.place, result.compared) ≡ halving key (rows_at (λ b p. be_at b p w) width block.now at n) }
+// Where a key stands among n rows of a table, or where it would be put in, and how many of them it was compared with.
+fn find(block: &[u8], at: Standing, n: usize, key: u64) -> (Result<usize, usize>, usize)
+    requires { (at.rows + n * at.width ≤ length block.now) × (at.key ≤ at.width) × (at.key ≤ 8) }
+    ensures { result ≡ halving key (rows_at (λ b p. be_at b p at.key) at.width block.now at.rows n) }
 {
     let mut low = 0;
     let mut high = n;
     let mut compared: usize = 0;
+    // A block holds rows as octets, so there is no slice of keys for its binary_search.
     while low < high {
         let middle = low + (high - low) / 2;
-        let k = be(block, at + middle * width, w);
+        let k = be(block, at.rows + middle * at.width, at.key);
         compared += 1;
         if k == key {
-            return Search {
-                place: Place::At(middle),
-                compared: compared,
-            };
+            return (Ok(middle), compared);
         }
         if key < k {
             high = middle;
@@ -159,42 +148,37 @@ fn find(block: &[u8], at: usize, n: usize, width: usize, w: usize, key: u64) -> 
             low = middle + 1;
         }
     }
-    Search {
-        place: Place::Absent(low),
-        compared: compared,
-    }
+    (Err(low), compared)
 }
 
-// Where a key stands among a table's ascending rows.
-pub fn find_row(block: &[u8], t: Table, key: u64) -> Place
+// Where a key stands among a table's ascending rows, or where it would be put in.
+pub fn find_row(block: &[u8], t: Table, key: u64) -> Result<usize, usize>
     requires { Sized block.now × Ascending (keys_of (rows_of t (content_of block.now))) }
     ensures { result ≡ find_key key (keys_of (rows_of t (content_of block.now))) }
 {
     let at = standing_of(t);
     let n = row_count(block, t);
-    let found = find(block, at.rows, n, at.width, at.key, key);
-    let place = found.place;
+    let (place, _) = find(block, at, n, key);
     place
 }
 
 // The place of a key, or of the first greater one.
-fn place_in(place: Place) -> usize
+fn place_in(place: Result<usize, usize>) -> usize
     ensures { result ≡ place_in place }
 {
     match place {
-        Place::At(i) => i,
-        Place::Absent(i) => i,
+        Ok(i) | Err(i) => i,
     }
 }
 
 // The first key of a table that is at least a number.
-pub fn first_key_from(block: &[u8], t: Table, low: u64) -> Key
+pub fn first_key_from(block: &[u8], t: Table, low: u64) -> Option<u64>
     requires { Sized block.now × Ascending (keys_of (rows_of t (content_of block.now))) }
     ensures { result ≡ answered (first_from low (keys_of (rows_of t (content_of block.now)))) }
 {
     let i = place_in(find_row(block, t, low));
     if i < row_count(block, t) {
-        return Key::At(row_key(block, t, i));
+        return Some(row_key(block, t, i));
     }
-    Key::Nothing
+    None
 }

@@ -1,9 +1,8 @@
 -- The number of a set-up (paper 01, "The block"). Assumes nothing.
-use Rattle.std.specs.Prelude.{ℕ}
-use Rattle.changes.specs.declared.setup.SetUp.{SetUp}
-use Rattle.changes.specs.declared.setup.SetUp.TheVariants.{Done, Refused}
+use Rattle.std.specs.Prelude.{ℕ, Result, Ok, Err}
+use Rattle.changes.specs.declared.setup.SetUpRefused.{SetUpRefused}
 
 -- refusal 9
-abbrev pub set_up_number : SetUp → ℕ
-set_up_number Done = 0
-set_up_number Refused = 9
+abbrev pub set_up_number : Result (Unit {0}) SetUpRefused → ℕ
+set_up_number (Ok done) = 0
+set_up_number (Err e) = 9

@@ -7,21 +7,17 @@ ghost use Rattle.std.specs.Prelude.{◌≡◌, ◌<◌, ◌≤◌, ◌^◌, leng
 ghost use Rattle.octets.specs.Numbers.{be_at, be_octets};
 ghost use Rattle.octets.specs.Parts.{patch};
 ghost use Rattle.block.specs.Layout.{block_size, many_cells, most_rows, most_pairs, at_vlan_total};
-ghost use Rattle.block.specs.Content.{Content, WellFormed, cell_put, deletes_more, vlan_in, vlan_put, static_in, static_put, pair_in, pair_put};
+ghost use Rattle.block.specs.Content.{Content, WellFormed, cell_put, deletes_more};
 ghost use Rattle.block.specs.Lookup.{exchanged};
 ghost use Rattle.block.specs.Rows.{RoomFor, HasRow, row_opened, row_closed};
 ghost use Rattle.block.specs.Image.{image, content_of};
-ghost use Rattle.block.specs.Tables.{rows_of, most, row_out, uncounted};
+ghost use Rattle.block.specs.declared.tables.Table.TheVariants.{Vlan as vlan, Static as static, Pair as pair};
+ghost use Rattle.block.specs.Tables.{rows_of, most, row_in, row_put, row_out, uncounted, counted};
 
-use block::layout::{
-    AT_CELLS, AT_DELETES, AT_PAIR_COUNT, AT_PAIRS, AT_STATIC_COUNT, AT_STATICS, AT_VLAN_COUNT,
-    AT_VLAN_TOTAL, AT_VLANS, PAIR_WIDTH, STATIC_WIDTH, VLAN_WIDTH,
-};
+use block::layout::{AT_CELLS, AT_DELETES, AT_VLAN_TOTAL};
 use block::reads::{deletes, vlan_status};
-use block::rows::{
-    PairRow, StaticRow, VlanRow, one_if_active, put_pair_row, put_static_row, put_vlan_row,
-};
-use block::tables::{Table, standing_of};
+use block::rows::{PairRow, Row, StaticRow, VlanRow, one_if_active};
+use block::tables::{Standing, Table, standing_of};
 use octets::gaps::{close_gap, open_gap};
 use octets::numbers::{be, be4, put};
 
@@ -42,24 +38,34 @@ pub fn add_deletes(block: &mut [u8], n: u32)
     put(block, AT_DELETES, 4, d + n as u64);
 }
 
-// Room for a row of width w is made at place i of the table whose count stands at index ca and whose rows start at index ra.
-fn open_row(block: &mut [u8], ca: usize, ra: usize, w: usize, i: usize)
-    requires { RoomFor block.old ca ra w i }
-    ensures { block.new ≡ row_opened block.old ca ra w i }
+// Room for a row is made at place i of a table.
+fn open_row(block: &mut [u8], at: Standing, i: usize)
+    requires { RoomFor block.old at.count at.rows at.width i }
+    ensures { block.new ≡ row_opened block.old at.count at.rows at.width i }
 {
-    let n = be4(block, ca) as usize;
-    open_gap(block, ra + i * w, ra + n * w, w);
-    put(block, ca, 4, (n + 1) as u64);
+    let n = be4(block, at.count) as usize;
+    open_gap(
+        block,
+        at.rows + i * at.width,
+        at.rows + n * at.width,
+        at.width,
+    );
+    put(block, at.count, 4, (n + 1) as u64);
 }
 
-// The row of width w at place i of such a table is taken out.
-fn close_row(block: &mut [u8], ca: usize, ra: usize, w: usize, i: usize)
-    requires { HasRow block.old ca ra w i }
-    ensures { block.new ≡ row_closed block.old ca ra w i }
+// The row at place i of a table is taken out.
+fn close_row(block: &mut [u8], at: Standing, i: usize)
+    requires { HasRow block.old at.count at.rows at.width i }
+    ensures { block.new ≡ row_closed block.old at.count at.rows at.width i }
 {
-    let n = be4(block, ca) as usize;
-    close_gap(block, ra + i * w, ra + n * w, w);
-    put(block, ca, 4, (n - 1) as u64);
+    let n = be4(block, at.count) as usize;
+    close_gap(
+        block,
+        at.rows + i * at.width,
+        at.rows + n * at.width,
+        at.width,
+    );
+    put(block, at.count, 4, (n - 1) as u64);
 }
 
 // How many VLAN rows are active when a row of one status becomes one of another. In a block that is not legal there may be fewer than go.
@@ -67,12 +73,7 @@ fn active_after(total: u64, was: u8, becomes: u8) -> u64
     requires { total < 256 ^ 2 }
     ensures { result ≡ exchanged total was becomes }
 {
-    let more = total + one_if_active(becomes);
-    let gone = one_if_active(was);
-    if more < gone {
-        return 0;
-    }
-    more - gone
+    (total + one_if_active(becomes)).saturating_sub(one_if_active(was))
 }
 
 // The stored number of active VLAN rows, when a row of one status becomes one of another; a row that is not there has the status 0.
@@ -84,60 +85,97 @@ fn exchange_status(block: &mut [u8], was: u8, becomes: u8)
     put(block, AT_VLAN_TOTAL, 2, active_after(total, was, becomes));
 }
 
+// A row of a table, with what a block keeps of the table beside its rows: of the VLAN table the number of active ones.
+pub trait Counted: Row {
+    // The row, which was not counted there, is.
+    fn count(&self, block: &mut [u8])
+        requires { length block.old ≡ block_size }
+        ensures { block.new ≡ counted Self.table block.old (Self.held self.now) };
+}
+
+impl Counted for VlanRow {
+    fn count(&self, block: &mut [u8]) {
+        exchange_status(block, 0, self.status);
+    }
+}
+
+impl Counted for StaticRow {
+    fn count(&self, _block: &mut [u8]) {}
+}
+
+impl Counted for PairRow {
+    fn count(&self, _block: &mut [u8]) {}
+}
+
+// A row is put in at place i of its table.
+pub fn insert_row<R: Counted>(block: &mut [u8], i: usize, key: u64, r: &R)
+    requires { (length block.old ≡ block_size) × (length (rows_of R.table (content_of block.old)) < most R.table) × (i ≤ length (rows_of R.table (content_of block.old))) }
+    ensures { (c : Content) → WellFormed c → block.old ≡ image c → block.new ≡ image (row_in R.table c i (key, R.held r.now)) }
+{
+    let at = standing_of(R::table());
+    open_row(block, at, i);
+    r.put(block, at.rows + i * at.width, key);
+    r.count(block);
+}
+
+// The row at place i of its table is written anew.
+pub fn change_row<R: Counted>(block: &mut [u8], i: usize, key: u64, r: &R)
+    requires { (length block.old ≡ block_size) × (i < most R.table) }
+    ensures { (c : Content) → WellFormed c → i < length (rows_of R.table c) → block.old ≡ image c → block.new ≡ image (row_put R.table c i (key, R.held r.now)) }
+{
+    let t = R::table();
+    let at = standing_of(t);
+    uncount(block, t, i);
+    r.put(block, at.rows + i * at.width, key);
+    r.count(block);
+}
+
 // A VLAN row is put in at place i.
 pub fn insert_vlan(block: &mut [u8], i: usize, key: u64, r: VlanRow)
     requires { (length block.old ≡ block_size) × (length (content_of block.old).vlans < most_rows) × (i ≤ length (content_of block.old).vlans) }
-    ensures { (c : Content) → WellFormed c → block.old ≡ image c → block.new ≡ image (vlan_in c i key r) }
+    ensures { (c : Content) → WellFormed c → block.old ≡ image c → block.new ≡ image (row_in vlan c i (key, r)) }
 {
-    let status = r.status;
-    open_row(block, AT_VLAN_COUNT, AT_VLANS, VLAN_WIDTH, i);
-    put_vlan_row(block, AT_VLANS + i * VLAN_WIDTH, key, r);
-    exchange_status(block, 0, status);
+    insert_row(block, i, key, &r);
 }
 
 // The VLAN row at place i is written anew.
 pub fn change_vlan(block: &mut [u8], i: usize, key: u64, r: VlanRow)
     requires { (length block.old ≡ block_size) × (i < most_rows) }
-    ensures { (c : Content) → WellFormed c → i < length c.vlans → block.old ≡ image c → block.new ≡ image (vlan_put c i key r) }
+    ensures { (c : Content) → WellFormed c → i < length c.vlans → block.old ≡ image c → block.new ≡ image (row_put vlan c i (key, r)) }
 {
-    let was = vlan_status(block, i);
-    let status = r.status;
-    put_vlan_row(block, AT_VLANS + i * VLAN_WIDTH, key, r);
-    exchange_status(block, was, status);
+    change_row(block, i, key, &r);
 }
 
 // A static row is put in at place i.
 pub fn insert_static(block: &mut [u8], i: usize, key: u64, r: StaticRow)
     requires { (length block.old ≡ block_size) × (length (content_of block.old).statics < most_rows) × (i ≤ length (content_of block.old).statics) }
-    ensures { (c : Content) → WellFormed c → block.old ≡ image c → block.new ≡ image (static_in c i key r) }
+    ensures { (c : Content) → WellFormed c → block.old ≡ image c → block.new ≡ image (row_in static c i (key, r)) }
 {
-    open_row(block, AT_STATIC_COUNT, AT_STATICS, STATIC_WIDTH, i);
-    put_static_row(block, AT_STATICS + i * STATIC_WIDTH, key, r);
+    insert_row(block, i, key, &r);
 }
 
 // The static row at place i is written anew.
 pub fn change_static(block: &mut [u8], i: usize, key: u64, r: StaticRow)
     requires { (length block.old ≡ block_size) × (i < most_rows) }
-    ensures { (c : Content) → WellFormed c → i < length c.statics → block.old ≡ image c → block.new ≡ image (static_put c i key r) }
+    ensures { (c : Content) → WellFormed c → i < length c.statics → block.old ≡ image c → block.new ≡ image (row_put static c i (key, r)) }
 {
-    put_static_row(block, AT_STATICS + i * STATIC_WIDTH, key, r);
+    change_row(block, i, key, &r);
 }
 
 // A pair row is put in at place i.
 pub fn insert_pair(block: &mut [u8], i: usize, key: u64, r: PairRow)
     requires { (length block.old ≡ block_size) × (length (content_of block.old).pairs < most_pairs) × (i ≤ length (content_of block.old).pairs) }
-    ensures { (c : Content) → WellFormed c → block.old ≡ image c → block.new ≡ image (pair_in c i key r) }
+    ensures { (c : Content) → WellFormed c → block.old ≡ image c → block.new ≡ image (row_in pair c i (key, r)) }
 {
-    open_row(block, AT_PAIR_COUNT, AT_PAIRS, PAIR_WIDTH, i);
-    put_pair_row(block, AT_PAIRS + i * PAIR_WIDTH, key, r);
+    insert_row(block, i, key, &r);
 }
 
 // The pair row at place i is written anew.
 pub fn change_pair(block: &mut [u8], i: usize, key: u64, r: PairRow)
     requires { (length block.old ≡ block_size) × (i < most_pairs) }
-    ensures { (c : Content) → WellFormed c → i < length c.pairs → block.old ≡ image c → block.new ≡ image (pair_put c i key r) }
+    ensures { (c : Content) → WellFormed c → i < length c.pairs → block.old ≡ image c → block.new ≡ image (row_put pair c i (key, r)) }
 {
-    put_pair_row(block, AT_PAIRS + i * PAIR_WIDTH, key, r);
+    change_row(block, i, key, &r);
 }
 
 // The row at place i is no longer counted in what the block keeps of a table beside its rows: of the VLAN table the number of active ones.
@@ -162,5 +200,5 @@ pub fn remove_row(block: &mut [u8], t: Table, i: usize)
 {
     let at = standing_of(t);
     uncount(block, t, i);
-    close_row(block, at.count, at.rows, at.width, i);
+    close_row(block, at, i);
 }

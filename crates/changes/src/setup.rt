@@ -10,7 +10,7 @@ ghost use Rattle.block.specs.Cells.{first_cell};
 ghost use Rattle.block.specs.Fresh.{fresh_column, fresh_cells, fresh_vlan, fresh_vlans, fresh, set_up_takes, after_set_up};
 ghost use Rattle.changes.specs.SetUp.{set_up_number};
 
-use super::{insert_vlan, put_cell};
+use super::{insert_row, put_cell};
 use block::cells::{cells_of, first_cell, live_in};
 use block::layout::{AT_ADDRESS, AT_DEVICE, AT_EDITION, AT_PORTS, BLOCK_SIZE};
 use block::model::is_model;
@@ -23,12 +23,9 @@ use octets::numbers::put;
 use octets::parts::{clear, copy_in};
 use octets::ports::ports_to;
 
-// Whether the block was set up: refused where the block, the model or the address is not as it must be.
-#[derive(Drop)]
-pub enum SetUp {
-    Done,
-    Refused,
-}
+// The block, the model or the address is not as it must be (refusal 9).
+#[derive(Clone, Copy, Debug, PartialEq, Eq)]
+pub struct SetUpRefused;
 
 // The row of VLAN 1 in a fresh block of a model.
 fn fresh_vlan(m: Model) -> VlanRow
@@ -47,20 +44,20 @@ fn fresh_vlan(m: Model) -> VlanRow
 }
 
 // Set-up with N ports, an edition, a device and an address.
-pub fn set_up(block: &mut [u8], m: Model, address: &[u8]) -> SetUp
+pub fn set_up(block: &mut [u8], m: Model, address: &[u8]) -> Result<(), SetUpRefused>
     ensures { (set_up_number result ≡ cond (set_up_takes block.old m address.now) 0 9) × (block.new ≡ after_set_up block.old m address.now) }
 {
     if block.len() != BLOCK_SIZE {
-        return SetUp::Refused;
+        return Err(SetUpRefused);
     }
     if !is_model(m) {
-        return SetUp::Refused;
+        return Err(SetUpRefused);
     }
     if address.len() != 6 {
-        return SetUp::Refused;
+        return Err(SetUpRefused);
     }
     write_fresh(block, m, address);
-    SetUp::Done
+    Ok(())
 }
 
 // Writes a fresh block.
@@ -83,7 +80,7 @@ fn write_fresh_vlans(block: &mut [u8], m: Model)
     ensures { (c : Content) → WellFormed c → c.vlans ≡ [] → block.old ≡ image c → block.new ≡ image (with_vlans c (fresh_vlans m)) }
 {
     if m.device == TRANSPARENT {
-        insert_vlan(block, 0, 1, fresh_vlan(m));
+        insert_row(block, 0, 1, &fresh_vlan(m));
     }
 }
 
@@ -92,10 +89,8 @@ fn write_fresh_cells(block: &mut [u8], m: Model)
     requires { (length block.old ≡ block_size) × (m.ports ≤ 64) }
     ensures { (c : Content) → WellFormed c → block.old ≡ image c → block.new ≡ image (with_cells c (fresh_cells m)) }
 {
-    let mut i = 0;
-    while i < OBJECT_COUNT {
+    for i in 0..OBJECT_COUNT {
         write_column(block, m, i);
-        i += 1;
     }
 }
 
@@ -108,10 +103,8 @@ fn write_column(block: &mut [u8], m: Model, i: usize)
     let live = live_in(m, o);
     let total = cells_of(o);
     let first = first_cell(i);
-    let mut j = 0;
-    while j < total {
+    for j in 0..total {
         put_cell(block, first + j, fresh_cell(i, live, j));
-        j += 1;
     }
 }
 

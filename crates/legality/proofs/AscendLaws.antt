@@ -37,11 +37,11 @@ mixed false true false e a = refl
 mixed false false t e a = refl
 
 -- the two passes
-pub rows-passes : {R : Type 0} (m : Model) (s : Shape) (t : R → Bool) (low : ℕ) (es : List (ℕ × R))
+pub rows_passes : {R : Type 0} (m : Model) (s : Shape) (t : R → Bool) (low : ℕ) (es : List (ℕ × R))
     → rows_ok m s t low es ≡ (every (row_ok m s t) es && ascends low es)
 unfolding rows_ok every ascends
-rows-passes m s t low [] = refl
-rows-passes m s t low (e ∷ es) = rw (rows-passes m s t (suc e.0) es) (mixed (leb low e.0) _ (t e.1) (every (row_ok m s t) es) (ascends (suc e.0) es))
+rows_passes m s t low [] = refl
+rows_passes m s t low (e ∷ es) = rw (rows_passes m s t (suc e.0) es) (mixed (leb low e.0) _ (t e.1) (every (row_ok m s t) es) (ascends (suc e.0) es))
 
 -- a turn of the first one
 pub each_turn : {A : Type 0} (t : A → Bool) (xs : List A) (i : ℕ) (d : A) → i < length xs
@@ -61,13 +61,13 @@ each_at t (x ∷ xs) zero d h e = (both (t x) (every t xs) e).0
 each_at t (x ∷ xs) (suc i) d h e = each_at t xs i d (omega arith) (both (t x) (every t xs) e).1
 
 -- rows that are as they must be have statuses of 3 to 5
-pub rows-status : (m : Model) (s : Shape) (es : List (ℕ × StaticRow)) → every (row_ok m s (static_ok m)) es ≡ true → every static_status es ≡ true
+pub rows_status : (m : Model) (s : Shape) (es : List (ℕ × StaticRow)) → every (row_ok m s (static_ok m)) es ≡ true → every static_status es ≡ true
 unfolding every static_ok
-rows-status m s [] h = refl
-rows-status m s (e ∷ es) h =
+rows_status m s [] h = refl
+rows_status m s (e ∷ es) h =
     let r = both (row_ok m s (static_ok m) e) (every (row_ok m s (static_ok m)) es) h in
     let ok = (both (can_have m s (index s e.0)) (static_ok m e.1) r.0).1 in
-    rw (both (static_status e) (port_set m e.1.allowed) ok).0 (rows-status m s es r.1)
+    rw (both (static_status e) (port_set m e.1.allowed) ok).0 (rows_status m s es r.1)
 
 -- a turn of the second one
 pub ascends-turn : {R : Type 0} (low : ℕ) (es : List (ℕ × R)) (i : ℕ) (d : ℕ × R) → i < length es

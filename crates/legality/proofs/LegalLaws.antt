@@ -115,8 +115,8 @@ every-both s t (x ∷ xs) = rw (every-both s t xs) (mixed (s x) (t x) (every s x
     mixed true false false d = refl
 
 -- an object takes each of some numbers where each is in its range, in its steps and among its frames
-pub takes-tests : (e : ℕ) (o : ObjectType) (xs : List ℕ) → every (takes e o) xs ≡ (every (in_range o) xs && (every (in_steps (step_in e o)) xs && every (in_frames o) xs))
-takes-tests e o xs =
+pub takes_tests : (e : ℕ) (o : ObjectType) (xs : List ℕ) → every (takes e o) xs ≡ (every (in_range o) xs && (every (in_steps (step_in e o)) xs && every (in_frames o) xs))
+takes_tests e o xs =
     every-both (in_range o) (λ v. in_steps (step_in e o) v && in_frames o v) xs
     ∙ ap (λ (t : Bool). every (in_range o) xs && t) (every-both (in_steps (step_in e o)) (in_frames o) xs)
 

@@ -1,16 +1,16 @@
 -- Two cells that are read as one number: whether both hold 0 to 7. Assumes nothing.
 use mathlib.Core.Path.{◌≡◌, refl, sym, ap, ◌∙◌}
-use mathlib.Core.Bool.{Bool, true, false, not, ◌&&◌, ◌||◌, and_assoc}
+use mathlib.Core.Bool.{Bool, true, false, ◌&&◌, and_assoc}
 use mathlib.Core.List.{List, [], ◌∷◌}
 use Prim.Native.Nat.{ℕ, ◌+◌, ◌*◌, ◌/◌, ◌%◌, ◌^◌, ◌≤◌, ◌<◌}
 use native.Mathlib.Omega.{arith}
 use lib.Bits.{bit_and, and_block, and_high}
 use lib.Dec.{eqb, leb}
 use lib.ListN.{length, get_or, take, drop}
-use borrow.Author.Tests.{le-leb, leb-true, leb-false, eq-eqb, ne_eqb}
+use borrow.Author.Tests.{leb-true, leb-false, eq-eqb, ne_eqb}
 use Rattle.octets.specs.Numbers.{be_at}
 use Rattle.octets.proofs.NumberLaws.{Octets, be_at-more, be_at-one, be_at-lt}
-use Rattle.names.specs.Rule.{in_range, in_steps, is_frame, in_frames}
+use Rattle.names.specs.Rule.{in_steps, in_frames}
 use Rattle.names.proofs.RuleLaws.{step-one}
 use Rattle.names.specs.declared.table.ObjectType.{ObjectType}
 use Rattle.block.specs.Image.{content_of}
@@ -84,13 +84,6 @@ every_two t xs k m i h l =
     ∙ ap (λ u. t (get_or xs (k + i) 0) && u) (every-turn t xs k m (i + 1) h (omega arith))
     ∙ rw (j, n) (sym (and_assoc (t (get_or xs (k + i) 0)) (t (get_or xs (k + i + 1) 0)) (every t (drop (i + 2) (take m (drop k xs))))))
 
--- a range of 0 to 7
-pub every-small : (o : ObjectType) → o.low ≡ 0 → o.high ≡ 7 → (xs : List ℕ) → every (in_range o) xs ≡ every is_small xs
-every-small o d e xs = λ z. every (λ v. same v z) xs
-  where
-    same : (v : ℕ) → in_range o v ≡ is_small v
-    same v = rw (d, e, le-leb 0 v (omega arith))
-
 -- a step of 1 leaves nothing to test
 pub every-unstepped : (s : ℕ) → s ≡ 1 → (xs : List ℕ) → every (in_steps s) xs ≡ true
 unfolding every
@@ -102,7 +95,3 @@ pub every-unframed : (o : ObjectType) → o.frames ≡ false → (xs : List ℕ)
 unfolding every
 every-unframed o e [] = refl
 every-unframed o e (x ∷ xs) = rw e (every-unframed o e xs)
-
--- and one that takes these alone has the test of a frame
-pub every-framed : (o : ObjectType) → o.frames ≡ true → (xs : List ℕ) → every (in_frames o) xs ≡ every is_frame xs
-every-framed o e xs = ap (λ (b : Bool). every (λ v. not b || is_frame v) xs) e

@@ -1,7 +1,7 @@
 // Whether a block is legal: the image of a valid content.
 #![tactic(auto)]
 
-ghost use Rattle.std.specs.Prelude.{◌≡◌, true, ◌&&◌, ◌+◌, ◌%◌, ◌≤◌, ◌<◌, ltb, length, get_or, take, drop};
+ghost use Rattle.std.specs.Prelude.{◌≡◌, ℕ, Bool, true, ◌&&◌, ◌+◌, ◌%◌, ◌^◌, ◌≤◌, ◌<◌, ltb, length, get_or, take, drop};
 ghost use Rattle.names.specs.Index.{can_have, index};
 ghost use Rattle.names.specs.Table.{objects};
 ghost use Rattle.names.specs.Rule.{in_range, in_steps, in_frames, takes};
@@ -21,7 +21,7 @@ use block::layout::{
     VLAN_NAME_LEN_AT, VLAN_STATUS_AT, VLAN_UNTAGGED_AT, VLAN_WIDTH,
 };
 use block::model::is_model;
-use block::reads::{cell, deletes, model, pair_entry, static_entry, timer, vlan_status};
+use block::reads::{cell, deletes, entry, model, timer, vlan_status};
 use block::rows::{PairRow, StaticRow, one_if_active};
 use block::tables::{Table, end_of, fits_in, row_count, row_key};
 use names::device::TRANSPARENT;
@@ -49,12 +49,24 @@ fn small_cells(block: &[u8], k: usize, m: usize) -> bool
     requires { (length block.now ≡ block_size) × (k + m ≤ many_cells) × (m % 2 ≡ 0) }
     ensures { result ≡ every is_small (take m (drop k (content_of block.now).cells)) }
 {
-    let mut i = 0;
-    while i < m {
-        if !two_small(block, k + i) {
+    for i in 0..m / 2 {
+        if !two_small(block, k + 2 * i) {
             return false;
         }
-        i += 2;
+    }
+    true
+}
+
+// Whether a test holds of m cells from cell k on.
+fn cells_all<F: Fn(u32) -> bool>(block: &[u8], k: usize, m: usize, test: F) -> bool
+    requires cells { (length block.now ≡ block_size) × (k + m ≤ many_cells) }
+    requires callable { F.IsAlwaysCallable test }
+    ensures { (t : ℕ → Bool) → ((v : ℕ) (r : Bool) → v < 2 ^ 32 → F.post test v r → r ≡ t v) → result ≡ every t (take m (drop k (content_of block.now).cells)) }
+{
+    for i in 0..m {
+        if !test(cell(block, k + i)) {
+            return false;
+        }
     }
     true
 }
@@ -69,16 +81,7 @@ fn cells_within(block: &[u8], k: usize, m: usize, o: ObjectType) -> bool
     if (low == 0) & (high == 7) & (m % 2 == 0) {
         return small_cells(block, k, m);
     }
-    let mut i = 0;
-    while i < m {
-        let v = cell(block, k + i);
-        let fits = (low <= v) & (v <= high);
-        if !fits {
-            return false;
-        }
-        i += 1;
-    }
-    true
+    cells_all(block, k, m, |v| (low <= v) & (v <= high))
 }
 
 // Whether m cells from cell k on are multiples of a step.
@@ -89,14 +92,7 @@ fn cells_stepped(block: &[u8], k: usize, m: usize, step: u32) -> bool
     if step == 1 {
         return true;
     }
-    let mut i = 0;
-    while i < m {
-        if cell(block, k + i) % step != 0 {
-            return false;
-        }
-        i += 1;
-    }
-    true
+    cells_all(block, k, m, |v| v % step == 0)
 }
 
 // Whether m cells from cell k on are largest frames, where those are all that an object takes.
@@ -107,28 +103,18 @@ fn cells_framed(block: &[u8], k: usize, m: usize, o: ObjectType) -> bool
     if !o.frames {
         return true;
     }
-    let mut i = 0;
-    while i < m {
-        if !is_frame(cell(block, k + i)) {
-            return false;
-        }
-        i += 1;
-    }
-    true
+    cells_all(block, k, m, |v| is_frame(v))
 }
 
 // Whether an object type takes m cells from cell k on in an edition.
+#[tactic(auto, using(crate::proofs::LegalLaws::takes_tests))]
 fn cells_taken(block: &[u8], k: usize, m: usize, edition: u32, o: ObjectType) -> bool
     requires { (length block.now ≡ block_size) × (k + m ≤ many_cells) × (0 < o.step) }
     ensures { result ≡ every (takes edition o) (take m (drop k (content_of block.now).cells)) }
 {
-    if !cells_within(block, k, m, o) {
-        return false;
-    }
-    if !cells_stepped(block, k, m, step_in(edition, o)) {
-        return false;
-    }
-    cells_framed(block, k, m, o)
+    cells_within(block, k, m, o)
+        && cells_stepped(block, k, m, step_in(edition, o))
+        && cells_framed(block, k, m, o)
 }
 
 // Whether the cells of an object type, from cell k on, are as they must be.
@@ -154,12 +140,10 @@ fn cells_ok(block: &[u8], m: Model) -> bool
 {
     let mut ok = true;
     let mut k = 0;
-    let mut i = 0;
-    while i < OBJECT_COUNT {
+    for i in 0..OBJECT_COUNT {
         let o = object(i);
         ok &= column_ok(block, m, o, k);
         k += cells_of(o);
-        i += 1;
     }
     ok
 }
@@ -233,8 +217,7 @@ fn vlans_ok(block: &[u8], m: Model) -> bool
     let count = row_count(block, Table::Vlan);
     let mut low: u64 = 0;
     let mut active: u64 = 0;
-    let mut i = 0;
-    while i < count {
+    for i in 0..count {
         let key = row_key(block, Table::Vlan, i);
         let fits = (low <= key)
             & ((1 <= key) & (key <= 4094))
@@ -244,7 +227,6 @@ fn vlans_ok(block: &[u8], m: Model) -> bool
         }
         active += one_if_active(vlan_status(block, i));
         low = key + 1;
-        i += 1;
     }
     active == be(block, AT_VLAN_TOTAL, 2)
 }
@@ -265,14 +247,12 @@ fn static_rows_ok(block: &[u8], m: Model) -> bool
     ensures { result ≡ every (row_ok m Shape.Static (static_ok m)) (content_of block.now).statics }
 {
     let count = row_count(block, Table::Static);
-    let mut i = 0;
-    while i < count {
+    for i in 0..count {
         let port = block[AT_STATICS + i * STATIC_WIDTH + STATIC_PORT_AT];
-        let fits = (port as u32 <= m.ports) & static_ok(m, static_entry(block, i));
+        let fits = (port as u32 <= m.ports) & static_ok(m, entry(block, i));
         if !fits {
             return false;
         }
-        i += 1;
     }
     true
 }
@@ -284,27 +264,23 @@ fn statics_ascend(block: &[u8]) -> bool
 {
     let count = row_count(block, Table::Static);
     let mut before: u64 = 0;
-    let mut i = 0;
-    while i < count {
+    for i in 0..count {
         let word = be8(block, AT_STATICS + i * STATIC_WIDTH);
         if word <= before + STATUSES_APART {
             return false;
         }
         before = word;
-        i += 1;
     }
     true
 }
 
 // Whether the static rows are as they must be: each by itself, and ascending.
+#[tactic(auto, using(crate::proofs::AscendLaws::rows_passes, crate::proofs::AscendLaws::rows_status))]
 fn statics_ok(block: &[u8], m: Model) -> bool
     requires { Sized block.now × (1 ≤ m.ports) × (m.ports ≤ 64) }
     ensures { result ≡ rows_ok m Shape.Static (static_ok m) 0 (content_of block.now).statics }
 {
-    if !static_rows_ok(block, m) {
-        return false;
-    }
-    statics_ascend(block)
+    static_rows_ok(block, m) && statics_ascend(block)
 }
 
 fn pair_ok(r: PairRow) -> bool
@@ -320,15 +296,13 @@ fn pairs_ok(block: &[u8], m: Model) -> bool
 {
     let count = row_count(block, Table::Pair);
     let mut low: u64 = 0;
-    let mut i = 0;
-    while i < count {
+    for i in 0..count {
         let key = row_key(block, Table::Pair, i);
-        let fits = (low <= key) & is_pair(m, key) & pair_ok(pair_entry(block, i));
+        let fits = (low <= key) & is_pair(m, key) & pair_ok(entry(block, i));
         if !fits {
             return false;
         }
         low = key + 1;
-        i += 1;
     }
     true
 }
@@ -384,35 +358,23 @@ pub fn is_legal(block: &[u8]) -> bool
 }
 
 // Whether the rows of all tables are as they must be.
+#[tactic(auto, unfolding(block::specs::Tests::tables_ok))]
 fn tables_ok(block: &[u8], m: Model) -> bool
     requires { Sized block.now × (1 ≤ m.ports) × (m.ports ≤ 64) }
     ensures { result ≡ tables_ok m block.now }
 {
-    if !vlans_ok(block, m) {
-        return false;
-    }
-    if !statics_ok(block, m) {
-        return false;
-    }
-    pairs_ok(block, m)
+    vlans_ok(block, m) && statics_ok(block, m) && pairs_ok(block, m)
 }
 
 // Whether the parts of a block are as they must be.
+#[tactic(auto, unfolding(block::specs::Tests::parts_ok))]
 fn contents_ok(block: &[u8], m: Model) -> bool
     requires { Sized block.now × (1 ≤ m.ports) × (m.ports ≤ 64) }
     ensures { result ≡ parts_ok m block.now }
 {
-    if !unused_is_zero(block) {
-        return false;
-    }
-    if !deletes_ok(block, m.device) {
-        return false;
-    }
-    if !cells_ok(block, m) {
-        return false;
-    }
-    if !timers_ok(block, m.device) {
-        return false;
-    }
-    tables_ok(block, m)
+    unused_is_zero(block)
+        && deletes_ok(block, m.device)
+        && cells_ok(block, m)
+        && timers_ok(block, m.device)
+        && tables_ok(block, m)
 }

@@ -1,6 +1,8 @@
 -- The rows while they close up in place. Assumes nothing.
 use Rattle.std.specs.Prelude.{ℕ, ◌+◌, ◌≡◌, cond, List, ◌++◌, length, drop, get_or}
-use Rattle.block.specs.Content.{Content, WellFormed, static_put}
+use Rattle.block.specs.Content.{Content, WellFormed}
+use Rattle.block.specs.Tables.{row_put}
+use Rattle.block.specs.declared.tables.Table.TheVariants.{Static as static}
 use Rattle.block.specs.Image.{image, content_of}
 use Rattle.block.specs.Lookup.{no_static}
 use Rattle.block.specs.declared.rows.StaticRow.{StaticRow}
@@ -20,7 +22,7 @@ abbrev pub row_at : Content → ℕ → ℕ × StaticRow
 row_at c i = get_or c.statics i no_static
 
 abbrev pub moved : Content → (j i : ℕ) → Content
-moved c j i = cond (goes (row_at c i).1) c (static_put c j (row_at c i).0 (row_at c i).1)
+moved c j i = cond (goes (row_at c i).1) c (row_put static c j (row_at c i))
 
 abbrev pub next_free : Content → (j i : ℕ) → ℕ
 next_free c j i = cond (goes (row_at c i).1) j (j + 1)

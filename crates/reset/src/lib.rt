@@ -10,13 +10,14 @@ ghost use Rattle.reset.specs.Reset.{stay, after_reset};
 ghost use Rattle.reset.specs.Closing.{closing, IsImage, moved, next_free};
 
 use block::layout::{AT_STATIC_COUNT, AT_STATICS, STATIC_WIDTH};
-use block::reads::static_entry;
+use block::reads::entry;
+use block::rows::StaticRow;
 use block::tables::{Table, row_count, row_key};
-use changes::change_static;
+use changes::change_row;
 use octets::numbers::put_be4;
 use octets::parts::clear;
 
-// The status of a row that a reset removes.
+// The status of a row that a reset removes: an octet of the block.
 const DELETE_ON_RESET: u8 = 4;
 
 // Writes the row at place i at place kept if it stays, and gives the next place.
@@ -24,12 +25,12 @@ fn move_row(block: &mut [u8], kept: usize, i: usize) -> usize
     requires { IsImage block.old × (i < length (content_of block.old).statics) × (kept ≤ i) }
     ensures { (result ≡ next_free (content_of block.old) kept i) × (block.new ≡ image (moved (content_of block.old) kept i)) }
 {
-    let row = static_entry(block, i);
+    let row: StaticRow = entry(block, i);
     if row.status == DELETE_ON_RESET {
         return kept;
     }
     let key = row_key(block, Table::Static, i);
-    change_static(block, kept, key, row);
+    change_row(block, kept, key, &row);
     kept + 1
 }
 
@@ -40,10 +41,8 @@ fn close_up(block: &mut [u8]) -> usize
 {
     let n = row_count(block, Table::Static);
     let mut kept = 0;
-    let mut i = 0;
-    while i < n {
+    for i in 0..n {
         kept = move_row(block, kept, i);
-        i += 1;
     }
     kept
 }

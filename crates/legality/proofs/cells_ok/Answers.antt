@@ -15,11 +15,11 @@ use Rattle.legality.proofs.cells_ok.Reads as reads
 use Rattle.legality.proofs.cells_ok.Tie as tie
 
 pub loop-i-init : goal.loop-i-init
-loop-i-init c = (omega arith, omega (arith, cells-many), refl)
+loop-i-init c = (omega (arith, cells-many), refl)
 
 -- the cells of the object and of those behind it are the cells left
 room : (c : lts.After-object tie.the-claims reads.Pre reads.Post goal.the-invariant-loop-i goal.the-decreases-loop-i) → let l = c.loop-i in l.k + (cells_of c.object-o.result + cells_in (drop (l.i + 1) objects)) ≡ 1541
-room c = let l = c.loop-i in rw (c.object-o.ensures, ← cells_left l.i c.loop-i-test.true) l.invariant.1
+room c = let l = c.loop-i in rw (c.object-o.ensures, ← cells_left l.i c.loop-i-test.true) l.invariant.0
 
 pub column_ok-ok-requires : goal.column_ok-ok-requires
 column_ok-ok-requires c =
@@ -32,9 +32,8 @@ pub loop-i-preserved : goal.loop-i-preserved
 loop-i-preserved c =
     let a = c.args in
     let l = c.loop-i in (
-      omega arith,
       omega (arith, room c.before.before.before),
-      l.invariant.2
+      l.invariant.1
           ∙ rw (
             cells-turn l.ok a.m (content_of a.block.now).cells l.i l.k c.loop-i-test.true,
             ← c.object-o.ensures,
@@ -46,4 +45,4 @@ loop-i-preserved c =
 pub returns : goal.returns
 returns c =
     let l = c.loop-i in
-    sym (l.invariant.2 ∙ rw (cells-end c.args.m _ l.i c.loop-i-test.false, and-true))
+    sym (l.invariant.1 ∙ rw (cells-end c.args.m _ l.i c.loop-i-test.false, and-true))

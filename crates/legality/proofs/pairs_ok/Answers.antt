@@ -17,7 +17,7 @@ use Rattle.legality.proofs.pairs_ok.Reads as reads
 use Rattle.legality.proofs.pairs_ok.Tie as tie
 
 pub loop-i-init : goal.loop-i-init
-loop-i-init c = (omega arith, refl)
+loop-i-init c = refl
 
 -- the key has two octets
 small : (c : lts.After-row_key tie.the-claims reads.Pre reads.Post goal.the-invariant-loop-i goal.the-decreases-loop-i) → c.row_key-key.result < 256 ^ 2
@@ -39,13 +39,13 @@ turn c =
     let a = c.args in
     let l = c.loop-i in
     let es = (content_of a.block.now).pairs in
-    l.invariant.1
+    l.invariant
     ∙ rw (
       rows-turn a.m Pair pair_ok l.low es l.i no_pair (omega arith),
       ← key-at es l.i no_pair.1,
       ← c.row_key-key.ensures,
       ← c.is_pair.ensures,
-      ← c.pair_entry.ensures,
+      ← c.entry.ensures,
       ← c.pair_ok.ensures,
     )
 
@@ -56,10 +56,10 @@ pub overflow_add-low : goal.overflow_add-low
 overflow_add-low c = omega (arith, small c.before.before.before.before.before)
 
 pub loop-i-preserved : goal.loop-i-preserved
-loop-i-preserved c = (omega arith, turn c.before.before ∙ rw c.if-not-fits.false)
+loop-i-preserved c = turn c.before.before ∙ rw c.if-not-fits.false
 
 pub returns : goal.returns
 returns c =
     let a = c.args in
     let l = c.loop-i in
-    sym (l.invariant.1 ∙ rows_end a.m Pair pair_ok l.low (content_of a.block.now).pairs l.i (omega arith))
+    sym (l.invariant ∙ rows_end a.m Pair pair_ok l.low (content_of a.block.now).pairs l.i (omega arith))

@@ -1,6 +1,5 @@
 -- `legality::pairs_ok` meets its contract. The invariant: the answer is that of the rows left, from low on. Assumes nothing.
 use mathlib.Core.Path.{◌≡◌}
-use Prim.Native.Nat.{◌≤◌, ◌-◌}
 use lib.ListN.{drop}
 use Rattle.names.specs.declared.Shape.TheVariants.{Pair}
 use Rattle.block.specs.Image.{content_of}
@@ -9,7 +8,4 @@ use Rattle.legality.proofs.pairs_ok.Given as goal
 
 abbrev pub invariant-loop-i : goal.invariant-loop-i
 invariant-loop-i l =
-    (l.i ≤ l.count) × (rows_ok l.m Pair pair_ok 0 (content_of l.block).pairs ≡ rows_ok l.m Pair pair_ok l.low (drop l.i (content_of l.block).pairs))
-
-abbrev pub decreases-loop-i : goal.decreases-loop-i
-decreases-loop-i l = l.count - l.i
+    rows_ok l.m Pair pair_ok 0 (content_of l.block).pairs ≡ rows_ok l.m Pair pair_ok l.low (drop l.i (content_of l.block).pairs)

@@ -1,6 +1,6 @@
 -- `legality::small_cells` meets its contract. The invariant: the answer is that of the cells left. Assumes nothing.
 use mathlib.Core.Path.{◌≡◌}
-use Prim.Native.Nat.{◌%◌, ◌≤◌, ◌-◌}
+use Prim.Native.Nat.{◌*◌}
 use lib.ListN.{take, drop}
 use Rattle.block.specs.Image.{content_of}
 use Rattle.block.specs.Valid.{every}
@@ -10,7 +10,4 @@ use Rattle.legality.proofs.small_cells.Given as goal
 abbrev pub invariant-loop-i : goal.invariant-loop-i
 invariant-loop-i l =
     let xs = take l.m (drop l.k (content_of l.block).cells) in
-    (l.i ≤ l.m) × (l.i % 2 ≡ 0) × (every is_small xs ≡ every is_small (drop l.i xs))
-
-abbrev pub decreases-loop-i : goal.decreases-loop-i
-decreases-loop-i l = l.m - l.i
+    every is_small xs ≡ every is_small (drop (2 * l.i) xs)

@@ -25,7 +25,7 @@ abbrev start : lts.After-static_ok tie.the-claims reads.Pre reads.Post goal.the-
 start c = c.before.before.before.before.before.before.before.before
 
 pub loop-i-init : goal.loop-i-init
-loop-i-init c = (omega arith, refl)
+loop-i-init c = refl
 
 pub overflow_mul-port : goal.overflow_mul-port
 overflow_mul-port c = omega (arith, many-in c.args.block.now static)
@@ -58,12 +58,12 @@ turn c =
     let there : i < be_at b 12 4 = omega (arith, many-in b static) in
     let octets : Octets b = λ j. omega (arith, c.shared_slice_known-1.given j) in
     let small = subst (λ k. k < 256 ^ 7) (key-at (content_of b).statics i no_static.1) (key-small b static i octets (omega arith)) in
-    c.loop-i.invariant.1
+    c.loop-i.invariant
     ∙ rw (
       each_turn (row_ok a.m Static (static_ok a.m)) (content_of b).statics i no_static (omega arith),
       static-can a.m _ small,
       port-is b i no_static there octets,
-      ← c.static_entry.ensures,
+      ← c.entry.ensures,
       ← c.static_ok.ensures,
     )
 
@@ -71,10 +71,10 @@ pub returns-then-not-fits : goal.returns-then-not-fits
 returns-then-not-fits c = sym (turn c.before.before ∙ rw c.if-not-fits.true)
 
 pub loop-i-preserved : goal.loop-i-preserved
-loop-i-preserved c = (omega arith, turn c.before.before ∙ rw c.if-not-fits.false)
+loop-i-preserved c = turn c.before.before ∙ rw c.if-not-fits.false
 
 pub returns : goal.returns
 returns c =
     let a = c.args in
     let l = c.loop-i in
-    sym (l.invariant.1 ∙ each-end (row_ok a.m Static (static_ok a.m)) (content_of a.block.now).statics l.i (omega arith))
+    sym (l.invariant ∙ each-end (row_ok a.m Static (static_ok a.m)) (content_of a.block.now).statics l.i (omega arith))

@@ -1,6 +1,5 @@
 -- `legality::static_rows_ok` meets its contract. The invariant: the answer is that of the rows left. Assumes nothing.
 use mathlib.Core.Path.{◌≡◌}
-use Prim.Native.Nat.{◌≤◌, ◌-◌}
 use lib.ListN.{drop}
 use Rattle.names.specs.declared.Shape.TheVariants.{Static}
 use Rattle.block.specs.Image.{content_of}
@@ -10,7 +9,4 @@ use Rattle.legality.proofs.static_rows_ok.Given as goal
 
 abbrev pub invariant-loop-i : goal.invariant-loop-i
 invariant-loop-i l =
-    (l.i ≤ l.count) × (every (row_ok l.m Static (static_ok l.m)) (content_of l.block).statics ≡ every (row_ok l.m Static (static_ok l.m)) (drop l.i (content_of l.block).statics))
-
-abbrev pub decreases-loop-i : goal.decreases-loop-i
-decreases-loop-i l = l.count - l.i
+    every (row_ok l.m Static (static_ok l.m)) (content_of l.block).statics ≡ every (row_ok l.m Static (static_ok l.m)) (drop l.i (content_of l.block).statics)

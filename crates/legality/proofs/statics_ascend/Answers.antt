@@ -19,7 +19,7 @@ use Rattle.legality.proofs.statics_ascend.Reads as reads
 use Rattle.legality.proofs.statics_ascend.Tie as tie
 
 pub loop-i-init : goal.loop-i-init
-loop-i-init c = (omega arith, omega arith, word_first, refl)
+loop-i-init c = (omega arith, word_first, refl)
 
 pub overflow_mul-i : goal.overflow_mul-i
 overflow_mul-i c = omega (arith, many-in c.args.block.now static)
@@ -31,7 +31,7 @@ pub be8-word-requires : goal.be8-word-requires
 be8-word-requires c = omega (arith, many-in c.args.block.now static)
 
 pub overflow_add-before : goal.overflow_add-before
-overflow_add-before c = omega (arith, c.loop-i.invariant.1, c.loop-i.invariant.2.last)
+overflow_add-before c = omega (arith, c.loop-i.invariant.0, c.loop-i.invariant.1.last)
 
 -- the row that was read: its key and its status are the word
 abbrev row : lts.After-be8 tie.the-claims reads.Pre reads.Post goal.the-invariant-loop-i goal.the-decreases-loop-i → ℕ × StaticRow
@@ -54,13 +54,13 @@ turn : (c : lts.After-be8 tie.the-claims reads.Pre reads.Post goal.the-invariant
     ascends 0 es ≡ (leb (key_behind c.loop-i.before) (row c).0 && ascends ((row c).0 + 1) (drop (c.loop-i.i + 1) es))
 turn c =
     let l = c.loop-i in
-    l.invariant.3 ∙ ascends-turn (key_behind l.before) (content_of c.args.block.now).statics l.i no_static (omega arith)
+    l.invariant.2 ∙ ascends-turn (key_behind l.before) (content_of c.args.block.now).statics l.i no_static (omega arith)
 
 pub returns-then-word-before : goal.returns-then-word-before
 returns-then-word-before c =
     let l = c.loop-i in
     let s = status c.before.before in
-    sym (turn c.before.before ∙ rw (word_below l.before (row c.before.before).0 (row c.before.before).1.status l.invariant.2 s.0 s.1 (omega (arith, word c.before.before))))
+    sym (turn c.before.before ∙ rw (word_below l.before (row c.before.before).0 (row c.before.before).1.status l.invariant.1 s.0 s.1 (omega (arith, word c.before.before))))
 
 pub loop-i-preserved : goal.loop-i-preserved
 loop-i-preserved c =
@@ -68,16 +68,15 @@ loop-i-preserved c =
     let s = status c.before.before in
     let e = word c.before.before in (
       omega arith,
-      omega arith,
-      subst Word (sym e) (word_next l.before (row c.before.before).0 (row c.before.before).1.status l.invariant.2 s.0 s.1),
+      subst Word (sym e) (word_next l.before (row c.before.before).0 (row c.before.before).1.status l.invariant.1 s.0 s.1),
       turn c.before.before
-          ∙ rw (word-above l.before (row c.before.before).0 (row c.before.before).1.status l.invariant.2 s.0 s.1 (omega (arith, e)))
+          ∙ rw (word-above l.before (row c.before.before).0 (row c.before.before).1.status l.invariant.1 s.0 s.1 (omega (arith, e)))
           (ap (λ (k : ℕ). ascends k (drop (l.i + 1) (content_of c.args.block.now).statics))
-          (sym (ap key_behind e ∙ behind-next l.before (row c.before.before).0 (row c.before.before).1.status l.invariant.2 s.0 s.1))),
+          (sym (ap key_behind e ∙ behind-next l.before (row c.before.before).0 (row c.before.before).1.status l.invariant.1 s.0 s.1))),
     )
 
 pub returns : goal.returns
 returns c =
     let a = c.args in
     let l = c.loop-i in
-    sym (l.invariant.3 ∙ ascends-end (key_behind l.before) (content_of a.block.now).statics l.i (omega arith))
+    sym (l.invariant.2 ∙ ascends-end (key_behind l.before) (content_of a.block.now).statics l.i (omega arith))

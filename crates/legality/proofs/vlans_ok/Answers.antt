@@ -22,7 +22,7 @@ use Rattle.legality.proofs.vlans_ok.Reads as reads
 use Rattle.legality.proofs.vlans_ok.Tie as tie
 
 pub loop-i-init : goal.loop-i-init
-loop-i-init c = (omega arith, omega arith, omega arith, refl)
+loop-i-init c = (omega arith, omega arith, refl)
 
 -- the key has two octets
 small : (c : lts.After-row_key tie.the-claims reads.Pre reads.Post goal.the-invariant-loop-i goal.the-decreases-loop-i) → c.row_key-key.result < 256 ^ 2
@@ -53,7 +53,7 @@ turn c =
     let a = c.args in
     let l = c.loop-i in
     let es = (content_of a.block.now).vlans in
-    l.invariant.3
+    l.invariant.2
     ∙ rw (
       rows-turn a.m Vlan (vlan_ok a.m) l.low es l.i no_vlan (omega arith),
       ← key-at es l.i no_vlan.1,
@@ -81,9 +81,8 @@ loop-i-preserved c =
     let l = c.loop-i in
     let b = c.args.block.now in
     let i : l.i < be_at b 8 4 = omega (arith, many-in b vlan) in (
-      omega arith,
       omega (arith, one_at_most c.vlan_status.result),
-      l.invariant.2 ∙ rw (active-turn b l.i i, ← c.vlan_status.ensures, ← c.one_if_active-active.ensures) (omega arith),
+      l.invariant.1 ∙ rw (active-turn b l.i i, ← c.vlan_status.ensures, ← c.one_if_active-active.ensures) (omega arith),
       turn c.before.before.before.before ∙ rw c.if-not-fits.false,
     )
 
@@ -93,5 +92,5 @@ returns c =
     let a = c.args in
     let l = c.loop-i in
     let vs = (content_of a.block.now).vlans in
-    let all : active_vlans vs ≡ l.active = l.invariant.2 ∙ rw (drop_of_length-le vs {i = l.i} (omega arith)) (omega arith) in
-    rw (l.invariant.3, rows_end a.m Vlan (vlan_ok a.m) l.low vs l.i (omega arith), all, c.be.ensures.0)
+    let all : active_vlans vs ≡ l.active = l.invariant.1 ∙ rw (drop_of_length-le vs {i = l.i} (omega arith)) (omega arith) in
+    rw (l.invariant.2, rows_end a.m Vlan (vlan_ok a.m) l.low vs l.i (omega arith), all, c.be.ensures.0)

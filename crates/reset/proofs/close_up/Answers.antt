@@ -21,7 +21,7 @@ row_count-n-requires c = (legal-valid c.args.block.now c.requires).2
 pub loop-i-init : goal.loop-i-init
 loop-i-init c =
     let b = c.args.block.now in
-    (omega arith, refl, none_written (content_of b), sym (ap image (turned-first (content_of b)) ∙ (legal-valid b c.requires).1))
+    (refl, none_written (content_of b), sym (ap image (turned-first (content_of b)) ∙ (legal-valid b c.requires).1))
 
 -- what stands before a turn: the content, and the block as its image
 module _ (b x : List ℕ) (i : ℕ) (stored : Storable (content_of b)) (few : i < length (content_of b).statics) (e : x ≡ image (turned (content_of b) i)) where
@@ -49,9 +49,9 @@ move_row-kept-requires c =
     let b = c.args.block.now in
     let stored : Storable (content_of b) = valid-storable (content_of b) (legal-valid b c.requires).0 in
     let few : l.i < length (content_of b).statics = omega (arith, c.loop-i-test.true, c.row_count-n.ensures) in (
-      holds b l.block l.i stored few l.invariant.3,
-      inside b l.block l.i stored few l.invariant.3,
-      omega (arith, l.invariant.2, written-short (content_of b).statics l.i (omega arith)),
+      holds b l.block l.i stored few l.invariant.2,
+      inside b l.block l.i stored few l.invariant.2,
+      omega (arith, l.invariant.1, written-short (content_of b).statics l.i (omega arith)),
     )
 
 pub loop-i-preserved : goal.loop-i-preserved
@@ -62,13 +62,13 @@ loop-i-preserved c =
     let stored : Storable (content_of b) = valid-storable (content_of b) (legal-valid b c.requires).0 in
     let few : l.i < length (content_of b).statics =
     omega (arith, c.loop-i-test.true, c.row_count-n.ensures) in
-    let t = after b l.block l.i stored few l.invariant.3 l.invariant.2 m.ensures.0 m.ensures.1 in
+    let t = after b l.block l.i stored few l.invariant.2 l.invariant.1 m.ensures.0 m.ensures.1 in
     let r : Storable (turned (content_of b) (l.i + 1)) = turned-storable (content_of b) (l.i + 1) stored (omega arith) in
     let size : length (image (turned (content_of b) (l.i + 1))) ≡ block_size = length-image (turned (content_of b) (l.i + 1)) r.shape in
-    (omega arith, ap length t.1 ∙ size ∙ sym (legal-valid b c.requires).2, t.0, t.1)
+    (ap length t.1 ∙ size ∙ sym (legal-valid b c.requires).2, t.0, t.1)
 
 pub shape_of-block : goal.shape_of-block
-shape_of-block c = c.loop-i.invariant.1
+shape_of-block c = c.loop-i.invariant.0
 
 pub returns : goal.returns
 returns c =
@@ -77,6 +77,6 @@ returns c =
     let n = c.row_count-n in
     let e : l.i ≡ length (content_of b).statics = omega (arith, n.ensures, c.loop-i-test.false) in
     let a : take l.i (content_of b).statics ≡ (content_of b).statics = take_all (content_of b) l.i e in (
-      l.invariant.2 ∙ ap (λ (r : List (ℕ × StaticRow)). length (stay r)) a,
-      l.invariant.3 ∙ ap (λ (r : List (ℕ × StaticRow)). image (with_statics (content_of b) (closing r (content_of b).statics))) a,
+      l.invariant.1 ∙ ap (λ (r : List (ℕ × StaticRow)). length (stay r)) a,
+      l.invariant.2 ∙ ap (λ (r : List (ℕ × StaticRow)). image (with_statics (content_of b) (closing r (content_of b).statics))) a,
     )

@@ -11,15 +11,14 @@ use Rattle.block.proofs.maps.rows_from.Goals as goal
 
 pub loop-i-init : goal.loop-i-init
 unfolding map_from
-loop-i-init c = (omega arith, refl, refl)
+loop-i-init c = (refl, refl)
 
 pub loop-i-preserved : goal.loop-i-preserved
 loop-i-preserved c =
     let l = c.loop-i in
     let a = c.args in (
-      omega arith,
-      rw length-set l.invariant.1,
-      rw (map_more (content_of a.block.now).cells a.k l.i, add-one, take-suc-set l.rows l.i c.eight.result (omega arith), l.invariant.2, c.eight.ensures),
+      rw length-set l.invariant.0,
+      rw (map_more (content_of a.block.now).cells a.k l.i, add-one, take-suc-set l.rows l.i c.eight.result (omega arith), l.invariant.1, c.eight.ensures),
     )
 
 pub returns : goal.returns
@@ -27,4 +26,4 @@ returns c =
     let l = c.loop-i in
     let a = c.args in
     let e : l.i ≡ 64 = omega arith in
-    sym (take_all 64 l.rows (omega arith)) ∙ ap (λ (n : ℕ). take n l.rows) (sym e) ∙ l.invariant.2 ∙ ap (λ (n : ℕ). map_from (content_of a.block.now).cells a.k n) e
+    sym (take_all 64 l.rows (omega arith)) ∙ ap (λ (n : ℕ). take n l.rows) (sym e) ∙ l.invariant.1 ∙ ap (λ (n : ℕ). map_from (content_of a.block.now).cells a.k n) e

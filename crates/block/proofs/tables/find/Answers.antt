@@ -1,5 +1,5 @@
 use mathlib.Core.Path.{◌≡◌, sym, ◌∙◌}
-use Prim.Native.Nat.{◌+◌, ◌*◌, ◌≤◌, ◌<◌}
+use Prim.Native.Nat.{ℕ, ◌+◌, ◌*◌, ◌≤◌, ◌<◌}
 use native.Mathlib.Omega.{arith}
 use lib.ListN.{length, get_or}
 use Rattle.octets.specs.Numbers.{be_at}
@@ -14,38 +14,35 @@ use Rattle.block.proofs.tables.find.Tie as tie
 pub loop-low-init : goal.loop-low-init
 loop-low-init c =
     let a = c.args in
-    let l : length (keys_at a.w a.width a.block.now a.at a.n) ≡ a.n = length-rows_at (λ x q. be_at x q a.w) a.width a.block.now a.at a.n in
-    (omega arith, omega arith, omega arith, rw l at (left-all a.key (keys_at a.w a.width a.block.now a.at a.n)))
+    let l : length (keys_at a.at.key a.at.width a.block.now a.at.rows a.n) ≡ a.n = length-rows_at (λ x q. be_at x q a.at.key) a.at.width a.block.now a.at.rows a.n in
+    (omega arith, omega arith, omega arith, rw l at (left-all a.key (keys_at a.at.key a.at.width a.block.now a.at.rows a.n)))
 
 -- the middle row is in the block
-inside : (c : lts.In-loop tie.the-claims reads.Pre reads.Post goal.the-invariant-loop-low goal.the-decreases-loop-low) →
-    let a = c.args in
-    let m = middle c.loop-low.low c.loop-low.high in
-    (m < a.n) × (m * a.width + a.width ≤ a.n * a.width)
-inside c =
-    let a = c.args in
-    let m = middle c.loop-low.low c.loop-low.high in
-    let h : m < a.n = omega arith in
-    (h, row_inside m a.n a.width h)
+inside : (n w low high : ℕ) → low < high → high ≤ n → (middle low high < n) × (middle low high * w + w ≤ n * w)
+inside n w low high h l =
+    let m : middle low high < n = omega arith in
+    (m, row_inside (middle low high) n w m)
 
 pub overflow_mul-middle : goal.overflow_mul-middle
-overflow_mul-middle c = omega (arith, (inside c.before).1)
+overflow_mul-middle c = let l = c.loop-low in omega (arith, (inside c.args.n c.args.at.width l.low l.high (omega arith) (omega arith)).1)
 
 pub overflow_add-at : goal.overflow_add-at
-overflow_add-at c = omega (arith, (inside c.before).1)
+overflow_add-at c = let l = c.loop-low in omega (arith, (inside c.args.n c.args.at.width l.low l.high (omega arith) (omega arith)).1)
 
 pub be-k-requires : goal.be-k-requires
-be-k-requires c = (omega (arith, (inside c.before).1), omega arith)
+be-k-requires c =
+    let l = c.loop-low in
+    (omega (arith, (inside c.args.n c.args.at.width l.low l.high (omega arith) (omega arith)).1), omega arith)
 
 -- the key that is read there
 key-read : (c : lts.After-be tie.the-claims reads.Pre reads.Post goal.the-invariant-loop-low goal.the-decreases-loop-low) →
     let a = c.args in
     let l = c.loop-low in
-    get_or (keys_at a.w a.width a.block.now a.at a.n) (middle l.low l.high) 0 ≡ c.be-k.result
+    get_or (keys_at a.at.key a.at.width a.block.now a.at.rows a.n) (middle l.low l.high) 0 ≡ c.be-k.result
 key-read c =
     let a = c.args in
     let l = c.loop-low in
-    get_d-rows_at (λ x q. be_at x q a.w) a.width a.block.now a.at a.n (middle l.low l.high) 0 (inside c.before).0 ∙ sym c.be-k.ensures.0
+    get_d-rows_at (λ x q. be_at x q a.at.key) a.at.width a.block.now a.at.rows a.n (middle l.low l.high) 0 (inside a.n a.at.width l.low l.high (omega arith) (omega arith)).0 ∙ sym c.be-k.ensures.0
 
 pub returns-then-k-key : goal.returns-then-k-key
 returns-then-k-key c = left-found _ _ c.loop-low.invariant.3 c.loop-low-test.true (key-read c.before.before ∙ c.if-k-key.true)

@@ -6,7 +6,7 @@ use Rattle.block.proofs.tables.find.Given as goal
 
 abbrev pub invariant-loop-low : goal.invariant-loop-low
 invariant-loop-low l =
-    (l.low ≤ l.high) × (l.high ≤ l.n) × (l.compared + (l.high - l.low) ≤ l.n) × Left l.key (keys_at l.w l.width l.block l.at l.n) l.low l.high l.compared
+    (l.low ≤ l.high) × (l.high ≤ l.n) × (l.compared + (l.high - l.low) ≤ l.n) × Left l.key (keys_at l.at.key l.at.width l.block l.at.rows l.n) l.low l.high l.compared
 
 abbrev pub decreases-loop-low : goal.decreases-loop-low
 decreases-loop-low l = l.high - l.low

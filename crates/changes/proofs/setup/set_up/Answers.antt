@@ -7,18 +7,18 @@ use Rattle.changes.proofs.SetUpLaws.{refused, taken}
 use Rattle.changes.proofs.setup.set_up.Goals as goal
 
 pub returns-then-block-ne-BLOCK_SIZE : goal.returns-then-block-ne-BLOCK_SIZE
-returns-then-block-ne-BLOCK_SIZE c = let a = c.args in refused a.block.now a.m a.address.now (λ h. omega arith)
+returns-then-block-ne-BLOCK_SIZE c = let a = c.args in refused a.block.now a.m a.address.now _ (λ h. omega arith)
 
 pub returns-then-not-is_model : goal.returns-then-not-is_model
 returns-then-not-is_model c =
     let a = c.args in
-    refused a.block.now a.m a.address.now
+    refused a.block.now a.m a.address.now _
     (λ h. false≢true (sym c.if-not-is_model.true ∙ c.is_model.ensures ∙ h.1))
 
 pub returns-then-address-ne6 : goal.returns-then-address-ne6
 returns-then-address-ne6 c =
     let a = c.args in
-    refused a.block.now a.m a.address.now (λ h. omega arith)
+    refused a.block.now a.m a.address.now _ (λ h. omega arith)
 
 pub write_fresh-requires : goal.write_fresh-requires
 write_fresh-requires c =

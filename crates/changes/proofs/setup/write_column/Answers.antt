@@ -10,7 +10,6 @@ pub loop-j-init : goal.loop-j-init
 loop-j-init c = (
   rw (← c.object-o.ensures) c.cells_of-total.ensures,
   c.first_cell-first.ensures.0,
-  omega arith,
   c.requires.0,
   λ m few e k s h. h ∙ ap image (column-none m k c.args.i),
 )
@@ -29,9 +28,8 @@ loop-j-preserved c =
     let v = c.fresh_cell.ensures in (
       l.invariant.0,
       l.invariant.1,
-      omega arith,
-      w.auto.block ∙ l.invariant.3,
-      λ m few e k s h. w.ensures (column_to m k i l.j) (column-shape m few s i c.requires.2 l.j (omega arith)) (l.invariant.4 m few e k s h)
+      w.auto.block ∙ l.invariant.2,
+      λ m few e k s h. w.ensures (column_to m k i l.j) (column-shape m few s i c.requires.2 l.j (omega arith)) (l.invariant.3 m few e k s h)
           ∙ ap image (rw (v, e, l.invariant.1) (column-more m few s i c.requires.2 l.j (omega arith))),
     )
 
@@ -39,4 +37,4 @@ pub returns : goal.returns
 returns c k s e =
     let l = c.loop-j in
     let live : c.live_in-live.result ≡ live_in c.args.m (object_at c.args.i) = rw (← c.object-o.ensures) c.live_in-live.ensures in
-    l.invariant.4 c.args.m c.requires.1 live k s e ∙ ap image (column-all c.args.m c.requires.1 s c.args.i c.requires.2 l.j (omega arith))
+    l.invariant.3 c.args.m c.requires.1 live k s e ∙ ap image (column-all c.args.m c.requires.1 s c.args.i c.requires.2 l.j (omega arith))

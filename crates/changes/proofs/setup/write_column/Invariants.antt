@@ -1,6 +1,6 @@
 -- `changes::setup::write_column` meets its contract. The invariant says it of the object's first j cells, for every content and every model with as many live cells. Assumes nothing.
 use mathlib.Core.Path.{◌≡◌}
-use Prim.Native.Nat.{◌≤◌, ◌-◌}
+use Prim.Native.Nat.{◌≤◌}
 use lib.ListN.{length}
 use Rattle.names.specs.Table.{object_at}
 use Rattle.names.specs.declared.model.Model.{Model}
@@ -12,8 +12,5 @@ use Rattle.changes.proofs.setup.write_column.Given as goal
 
 abbrev pub invariant-loop-j : goal.invariant-loop-j
 invariant-loop-j l =
-    (l.total ≡ cells_of (object_at l.i)) × (l.first ≡ first_cell l.i) × (l.j ≤ l.total) × (length l.block ≡ 32768)
+    (l.total ≡ cells_of (object_at l.i)) × (l.first ≡ first_cell l.i) × (length l.block ≡ 32768)
     × ((m : Model) → m.ports ≤ 64 → l.live ≡ live_in m (object_at l.i) → (c : Content) → WellFormed c → l.initial.block ≡ image c → l.block ≡ image (column_to m c l.i l.j))
-
-abbrev pub decreases-loop-j : goal.decreases-loop-j
-decreases-loop-j l = l.total - l.j

@@ -1,8 +1,0 @@
--- `block::rows::pair_row` meets its contract. Assumes nothing.
-use Rattle.block.specs.Image.{pair_at}
-use Rattle.octets.proofs.NumberLaws.{be_at-one}
-use Rattle.block.proofs.rows.pair_row.Goals as goal
-
-pub returns : goal.returns
-unfolding pair_at
-returns c = rw (be_at-one, be_at-one)
