@@ -6,9 +6,10 @@ use mathlib.Core.List.{List, [], ◌∷◌, ◌++◌, append-nil}
 use native.Mathlib.Omega.{arith}
 use native.Mathlib.Numerals.{add-one}
 use borrow.Author.Tests.{lt-ltb, le-ltb, ltb-true, ltb-false}
-use lib.Dec.{leb, ltb, eqb}
+use lib.Dec.{ltb, eqb}
 use lib.ListN.{length, get_or, drop, length-append, drop_of_length-le}
 use lib.Seq.{drop-cons}
+use mir.Val.{bool_byte}
 use Rattle.octets.specs.Numbers.{be_octets}
 use Rattle.octets.specs.Parts.{patch}
 use Rattle.octets.proofs.PartLaws.{patch-patch, patch-none, length-patch}
@@ -16,7 +17,8 @@ use Rattle.octets.proofs.NumberLaws.{length-be_octets}
 use Rattle.octets.proofs.BoolLaws.{left-of, right_of}
 use Rattle.names.specs.SubIds.{name_octets}
 use Rattle.names.proofs.SubIdLaws.{length-name_octets, name_octets-append}
-use Rattle.ber.specs.Ber.{ends_from, name_whole, numbers_from, first_of, made, first_two, sub_ids, all_below, limit_of, name_fits}
+use Rattle.std.specs.Prelude.{Some, None}
+use Rattle.ber.specs.Ber.{sub_id_count, ends_from, name_whole, numbers_from, first_of, made, first_two, sub_ids, all_below, limit_of}
 
 -- the sub-ids of numbers that are left
 abbrev pub rest_of : (first : Bool) → List ℕ → List ℕ
@@ -35,9 +37,9 @@ rest-none : (f : Bool) → rest_of f [] ≡ []
 rest-none true = refl
 rest-none false = refl
 
-pub made-count : (f : Bool) (n : ℕ) → length (made f n) ≡ cond f 2 1
-made-count true n = refl
-made-count false n = refl
+made-count : (f : Bool) (n m : ℕ) → m ≡ bool_byte f → length (made f n) ≡ 1 + m
+made-count true n m e = omega arith
+made-count false n m e = omega arith
 
 second_below : (n : ℕ) → n < 0x100000050 → (first_of n < 0x100000000) × (n - 40 * first_of n < 0x100000000)
 second_below n h = go (ltb n 80) refl
@@ -157,7 +159,7 @@ pub counted_none : (xs : List ℕ) → name_whole xs ≡ true → Counted xs tru
 unfolding sub_ids
 counted_none xs e = record { passed = passed_none xs e; few = omega arith; counted = omega arith }
 
-pub made-small : (f : Bool) (m : ℕ) → m ≡ cond f 2 1 → m ≤ 2
+pub made-small : (f : Bool) (m : ℕ) → m ≡ bool_byte f → m ≤ 1
 made-small true m q = omega arith
 made-small false m q = omega arith
 
@@ -170,10 +172,10 @@ module _ {xs : List ℕ} {f : Bool} {acc count i : ℕ} (w : Counted xs f acc co
         counted = omega (arith, w.counted, ap length (rest_more w.passed x h e b l));
       }
 
-  pub counted_next : (m : ℕ) → m ≡ cond f 2 1 → x < 128 → Counted xs false 0 (count + m) (i + 1)
+  pub counted_next : (m : ℕ) → m ≡ bool_byte f → x < 128 → Counted xs false 0 (count + (1 + m)) (i + 1)
   counted_next m q l =
-      let c : length (made f (acc * 128 + x % 128)) ≡ m = made-count f (acc * 128 + x % 128) ∙ sym q in
-      let two : m ≤ 2 = made-small f m q in
+      let c : length (made f (acc * 128 + x % 128)) ≡ 1 + m = made-count f (acc * 128 + x % 128) m q in
+      let two : m ≤ 1 = made-small f m q in
       record {
         passed = passed-next w.passed x h e b k l;
         few = omega (arith, w.few);
@@ -189,33 +191,16 @@ module _ {xs : List ℕ} {f : Bool} {acc count i : ℕ} (w : Counted xs f acc co
 pub counted-as : {xs : List ℕ} {f g : Bool} {acc acc' count count' i : ℕ} → Counted xs f acc count i → g ≡ f → acc' ≡ acc → count' ≡ count → Counted xs g acc' count' i
 counted-as w p q r = rw (p, q, r) w
 
-pub counted-over : (xs : List ℕ) → all_below (2 ^ 32) (sub_ids xs) ≡ false → 0 ≡ cond (all_below (2 ^ 32) (sub_ids xs)) (length (sub_ids xs)) 0
+pub counted-over : (xs : List ℕ) → all_below (2 ^ 32) (sub_ids xs) ≡ false → None ≡ sub_id_count xs
 counted-over xs e = rw e
 
-pub counted-done : {xs : List ℕ} {f : Bool} {acc count i : ℕ} → Counted xs f acc count i → length xs ≤ i
-    → count ≡ cond (all_below (2 ^ 32) (sub_ids xs)) (length (sub_ids xs)) 0
+pub counted-done : {xs : List ℕ} {f : Bool} {acc count i : ℕ} → Counted xs f acc count i → length xs ≤ i → Some count ≡ sub_id_count xs
 unfolding all_below
 counted-done {xs} {f} {acc} {count} {i} w h =
     let z : rest_of f (numbers_from acc (drop i xs)) ≡ [] = rest_end xs f acc i h in
     let t : true ≡ all_below (2 ^ 32) (sub_ids xs) = rw z at w.passed.fits in
-    rw (← t) (omega (arith, w.counted, ap length z))
-
--- a name's verdict, from the count
-pub fits_not : (xs : List ℕ) {n : ℕ} → n ≡ cond (all_below (2 ^ 32) (sub_ids xs)) (length (sub_ids xs)) 0 → n ≡ 0 → 1 ≤ length (sub_ids xs) → false ≡ name_fits xs
-unfolding name_fits
-fits_not xs {n} = go (all_below (2 ^ 32) (sub_ids xs))
-  where
-    go : (t : Bool) → n ≡ cond t (length (sub_ids xs)) 0 → n ≡ 0 → 1 ≤ length (sub_ids xs) → false ≡ (t && leb (length (sub_ids xs)) 128)
-    go true e z h = absurd (omega arith)
-    go false e z h = refl
-
-pub fits-if : (xs : List ℕ) {n : ℕ} → n ≡ cond (all_below (2 ^ 32) (sub_ids xs)) (length (sub_ids xs)) 0 → (n ≡ 0 → ⊥) → leb n 128 ≡ name_fits xs
-unfolding name_fits
-fits-if xs {n} = go (all_below (2 ^ 32) (sub_ids xs))
-  where
-    go : (t : Bool) → n ≡ cond t (length (sub_ids xs)) 0 → (n ≡ 0 → ⊥) → leb n 128 ≡ (t && leb (length (sub_ids xs)) 128)
-    go true e z = rw e
-    go false e z = absurd (z e)
+    let n : count ≡ length (sub_ids xs) = omega (arith, w.counted, ap length z) in
+    rw (← t, n)
 
 -- a number that goes on has an octet more
 goes_on : (xs : List ℕ) → ends_from false xs ≡ true → 0 < length xs

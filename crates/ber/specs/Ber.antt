@@ -1,11 +1,18 @@
 -- BER as community-based messages use it (RFC 1901, RFC 3416, X.690): a field is a tag octet, a length of a definite form, and contents. Assumes nothing.
-use Rattle.std.specs.Prelude.{ℕ, ◌+◌, ◌*◌, ◌-◌, ◌/◌, ◌^◌, Bool, true, false, cond, not, ◌&&◌, ◌||◌, List, [], ◌∷◌, ◌++◌, length, get_or, drop, replicate, leb, ltb, eqb}
+use Rattle.std.specs.Prelude.{ℕ, ◌+◌, ◌*◌, ◌-◌, ◌/◌, ◌^◌, Bool, true, false, cond, not, ◌&&◌, ◌||◌, List, [], ◌∷◌, ◌++◌, length, get_or, drop, replicate, leb, ltb, eqb, Option, Some, None, ok_or, Result, Ok, Err, ⊤}
 use Rattle.octets.specs.Numbers.{be_at}
 use Rattle.octets.specs.Parts.{part}
 use Rattle.message.specs.declared.form.Field.{Field}
-use Rattle.message.specs.declared.form.Field.TheVariants.{Cut, Whole}
-use Rattle.ber.specs.declared.PartRead.{PartRead}
-use Rattle.ber.specs.declared.PartRead.TheVariants.{Refused, At}
+use Rattle.message.specs.Form.{field}
+use Rattle.message.specs.declared.refusals.Reason.{Reason}
+use Rattle.message.specs.declared.refusals.Reason.TheVariants.{DatagramBroken, NoCounterpart}
+use Rattle.ber.specs.declared.Part.{Part}
+
+-- a reading goes on from what was read; the first refusal ends it
+infixl 10 ◌>>=◌
+abbrev pub ◌>>=◌ : {A B : Type 0} → Result A Reason → (A → Result B Reason) → Result B Reason
+Ok x >>= go = go x
+Err r >>= go = Err r
 
 -- ## Fields
 
@@ -13,39 +20,42 @@ use Rattle.ber.specs.declared.PartRead.TheVariants.{Refused, At}
 abbrev pub long_form : ℕ → Bool
 long_form x = ltb 128 x && ltb x 255
 
--- how many octets the length at an offset has; 0 where it is cut by the enclosure's end, or of no definite form
-unfoldable pub length_octets : List ℕ → (at end : ℕ) → ℕ
+-- how many octets the length at an offset has; none where it is cut by the enclosure's end, or of no definite form
+unfoldable pub length_octets : List ℕ → (at end : ℕ) → Option ℕ
 length_octets s at end =
     cond (ltb at end)
-    (cond (ltb (get_or s at 0) 128) 1 (cond (long_form (get_or s at 0) && leb (at + (get_or s at 0 - 127)) end) (get_or s at 0 - 127) 0))
-    0
+    (cond (ltb (get_or s at 0) 128) (Some 1) (cond (long_form (get_or s at 0) && leb (at + (get_or s at 0 - 127)) end) (Some (get_or s at 0 - 127)) None))
+    None
 
 -- the length that n octets say: leading zeros are allowed, and it may be as long as it likes
 unfoldable pub length_said : List ℕ → (at n : ℕ) → ℕ
 length_said s at n = cond (eqb n 1) (get_or s at 0) (be_at s (at + 1) (n - 1))
 
-abbrev pub whole_if : (tag start len end : ℕ) → Field
-whole_if tag start len end = cond (leb (start + len) end) (Whole tag start len) Cut
+-- a number that is at most `most`
+abbrev pub at_most : (most n : ℕ) → Option ℕ
+at_most most n = cond (leb n most) (Some n) None
 
--- the field at an offset of an enclosure that ends at `end`
-unfoldable pub field_at : List ℕ → (at end : ℕ) → Field
-field_at s at end =
-    cond (ltb 0 (length_octets s (at + 1) end))
-    (whole_if (get_or s at 0) (at + 1 + length_octets s (at + 1) end) (length_said s (at + 1) (length_octets s (at + 1) end)) end)
-    Cut
+abbrev pub whole_if : (tag start len end : ℕ) → Option Field
+whole_if tag start len end = cond (leb (start + len) end) (Some (field tag start len)) None
 
--- a field that was read: a cut one is refused, "16 broken BER"; else the reading goes on with its tag, and with where its contents start and their length
-abbrev pub field_then : {A : Type 0} → Field → (ℕ → A) → (ℕ → ℕ → ℕ → A) → A
-field_then Cut stop go = stop 16
-field_then (Whole tag start len) stop go = go tag start len
+-- the field whose length has n octets
+abbrev pub field_with : List ℕ → (at end : ℕ) → Option ℕ → Option Field
+field_with s at end None = None
+field_with s at end (Some n) = whole_if (get_or s at 0) (at + 1 + n) (length_said s (at + 1) n) end
 
-abbrev pub found_then : {A : Type 0} → PartRead → (ℕ → A) → (ℕ → ℕ → A) → A
-found_then (Refused n) stop go = stop n
-found_then (At start len) stop go = go start len
+-- the field at an offset of an enclosure that ends at `end`; none where it is cut
+unfoldable pub field_at : List ℕ → (at end : ℕ) → Option Field
+field_at s at end = field_with s at end (length_octets s (at + 1) end)
+
+-- a field that is cut is refused, "16 broken BER"
+abbrev pub whole_field : List ℕ → (at end : ℕ) → Result Field Reason
+whole_field s at end = ok_or (field_at s at end) DatagramBroken
 
 -- "per field its length, its tag": a field of one tag, "16 .. a wrong tag other than a PDU's (18) or a content's (19)"
-unfoldable pub part_at : (tag : ℕ) → List ℕ → (at end : ℕ) → PartRead
-part_at tag s at end = field_then (field_at s at end) Refused (λ t start len. cond (eqb t tag) (At start len) (Refused 16))
+unfoldable pub part_at : (tag : ℕ) → List ℕ → (at end : ℕ) → Result Part Reason
+part_at tag s at end = do
+  f ← whole_field s at end
+  cond (eqb f.tag tag) (Ok (record { start = f.start; len = f.len })) (Err DatagramBroken)
 
 -- ## Numbers: two's complement, most significant octet first
 
@@ -70,22 +80,27 @@ four xs = drop 1 (five xs)
 unfoldable pub integer32 : List ℕ → Bool
 integer32 xs = leb (length xs) 4
 
--- one from 0 to 2 ^ 32 - 1 has at most five, and in five the first is 0
-unfoldable pub unsigned32 : List ℕ → Bool
-unsigned32 xs = leb (length xs) 5 && eqb (get_or (five xs) 0 0) 0
+-- one from 0 on that so many octets hold without a sign, four at most, has at most one octet more, and in five the octet before them is 0
+abbrev pub unsigned : (octets : ℕ) → List ℕ → Bool
+unsigned octets xs = leb (length xs) (octets + 1) && eqb (get_or (five xs) (4 - octets) 0) 0
 
--- one from 0 to 255 has at most two, and in five all but the last are 0
+-- one from 0 to 2 ^ 32 - 1
+unfoldable pub unsigned32 : List ℕ → Bool
+unsigned32 xs = unsigned 4 xs
+
+-- one from 0 to 255
 unfoldable pub unsigned8 : List ℕ → Bool
-unsigned8 xs = leb (length xs) 2 && eqb (get_or (five xs) 3 0) 0
+unsigned8 xs = unsigned 1 xs
 
 -- the number n, from 0 to 127, in the fewest octets
 unfoldable pub is_number : ℕ → List ℕ → Bool
 is_number n xs = eqb (length xs) 1 && eqb (get_or xs 0 0) n
 
 -- the field of a number
-unfoldable pub number_at : List ℕ → (at end : ℕ) → PartRead
-number_at s at end =
-    found_then (part_at 0x02 s at end) Refused (λ start len. cond (fewest (part s start len)) (At start len) (Refused 16))
+unfoldable pub number_at : List ℕ → (at end : ℕ) → Result Part Reason
+number_at s at end = do
+  p ← part_at 0x02 s at end
+  cond (fewest (part s p.start p.len)) (Ok p) (Err DatagramBroken)
 
 -- ## Names: numbers to the base 128, an octet from 128 on has another after it
 
@@ -129,30 +144,34 @@ abbrev pub limit_of : (first : Bool) → ℕ
 limit_of true = 0x100000050
 limit_of false = 0x100000000
 
+-- how many sub-ids there are, where all are below 2 ^ 32
+abbrev pub sub_id_count : List ℕ → Option ℕ
+sub_id_count xs = cond (all_below (2 ^ 32) (sub_ids xs)) (Some (length (sub_ids xs))) None
+
 unfoldable pub name_fits : List ℕ → Bool
 name_fits xs = all_below (2 ^ 32) (sub_ids xs) && leb (length (sub_ids xs)) 128
 
 -- ## Contents
 
--- our tag of a content's tag, 0 where there is none: null, INTEGER, OCTET STRING, Gauge32 or Unsigned32, Counter32, noSuchObject, noSuchInstance, endOfMibView
-unfoldable pub content_tag : ℕ → ℕ
+-- our tag of a content's tag, if there is one: null, INTEGER, OCTET STRING, Gauge32 or Unsigned32, Counter32, noSuchObject, noSuchInstance, endOfMibView
+unfoldable pub content_tag : ℕ → Option ℕ
 content_tag tag =
-    cond (eqb tag 0x05) 0x20
-    (cond (eqb tag 0x02) 0x21
-    (cond (eqb tag 0x04) 0x22
-    (cond (eqb tag 0x42) 0x23
-    (cond (eqb tag 0x41) 0x24
-    (cond (eqb tag 0x80) 0x30 (cond (eqb tag 0x81) 0x31 (cond (eqb tag 0x82) 0x32 0)))))))
+    cond (eqb tag 0x05) (Some 0x20)
+    (cond (eqb tag 0x02) (Some 0x21)
+    (cond (eqb tag 0x04) (Some 0x22)
+    (cond (eqb tag 0x42) (Some 0x23)
+    (cond (eqb tag 0x41) (Some 0x24)
+    (cond (eqb tag 0x80) (Some 0x30) (cond (eqb tag 0x81) (Some 0x31) (cond (eqb tag 0x82) (Some 0x32) None)))))))
 
--- the refusal of a content by our tag, 0 where there is none: "other 16" before 19
-abbrev pub number_judged : Bool → Bool → ℕ
-number_judged short fits = cond short (cond fits 0 19) 16
+-- whether a content by our tag is refused: "other 16" before 19
+abbrev pub number_judged : (short fits : Bool) → Result ⊤ Reason
+number_judged short fits = cond short (cond fits (Ok tt) (Err NoCounterpart)) (Err DatagramBroken)
 
-unfoldable pub content_judged : (tag : ℕ) → List ℕ → ℕ
+unfoldable pub content_judged : (tag : ℕ) → List ℕ → Result ⊤ Reason
 content_judged tag xs =
-    cond (eqb tag 0x22) (cond (leb (length xs) 255) 0 19)
+    cond (eqb tag 0x22) (cond (leb (length xs) 255) (Ok tt) (Err NoCounterpart))
     (cond (eqb tag 0x21) (number_judged (fewest xs) (integer32 xs))
-    (cond (eqb tag 0x23 || eqb tag 0x24) (number_judged (fewest xs) (unsigned32 xs)) (cond (eqb (length xs) 0) 0 16)))
+    (cond (eqb tag 0x23 || eqb tag 0x24) (number_judged (fewest xs) (unsigned32 xs)) (cond (eqb (length xs) 0) (Ok tt) (Err DatagramBroken))))
 
 -- the octets of a content in our message form
 unfoldable pub content_octets : (tag : ℕ) → List ℕ → List ℕ

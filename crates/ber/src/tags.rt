@@ -1,4 +1,4 @@
-// The tags of BER that a datagram has.
+// The tags of BER that a datagram has: octets, since `part_at` and `content_tag` answer for each octet that may arrive.
 pub const BER_INTEGER: u8 = 0x02;
 
 pub const BER_STRING: u8 = 0x04;

@@ -1,12 +1,8 @@
--- `ber::number_to` meets its contract. The invariant: acc is the number of the i octets passed, or most + 1 where that is above most. Assumes nothing.
-use Prim.Native.Nat.{◌-◌, ◌≤◌}
+-- `ber::number_to` meets its contract. The invariant: acc is the number of the octets passed, and is at most `most`. Assumes nothing.
+use Prim.Native.Nat.{◌≤◌}
 use mathlib.Core.Path.{◌≡◌}
 use Rattle.octets.specs.Numbers.{be_at}
-use Rattle.ber.proofs.BerLaws.{capped}
 use Rattle.ber.proofs.number_to.Given as goal
 
-abbrev pub invariant-loop-i : goal.invariant-loop-i
-invariant-loop-i l = (l.i ≤ l.w) × (l.acc ≡ capped l.most (be_at l.s l.at l.i))
-
-abbrev pub decreases-loop-i : goal.decreases-loop-i
-decreases-loop-i l = l.w - l.i
+abbrev pub invariant-loop-x : goal.invariant-loop-x
+invariant-loop-x l = (l.acc ≤ l.most) × (l.acc ≡ be_at l.octets 0 l.x-index)

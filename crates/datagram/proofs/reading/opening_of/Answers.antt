@@ -1,19 +1,20 @@
 -- `datagram::reading::opening_of` meets its contract. Assumes nothing.
 use native.Mathlib.Omega.{arith}
-use Rattle.ber.proofs.BerLaws.{part-told}
-use Rattle.datagram.specs.Reading.{opening_of}
+use mathlib.Core.Path.{refl}
+use Rattle.ber.proofs.BerLaws.{part-told, number-told}
 use Rattle.datagram.proofs.reading.opening_of.Goals as goal
 
-pub overflow_add-start : goal.overflow_add-start
-overflow_add-start c = omega (arith, part-told 0x30 c.args.s.now _ _ c.part_at.ensures c.in-At.is)
+pub contents-requires : goal.contents-requires
+contents-requires c = omega (arith, part-told 0x30 _ _ _ c.in_ok-message.ensures refl, number-told _ _ _ c.in_ok-version.ensures refl)
 
-pub version_in-requires : goal.version_in-requires
-version_in-requires c = omega (arith, part-told 0x30 c.args.s.now _ _ c.part_at.ensures c.in-At.is)
+pub overflow_add-version : goal.overflow_add-version
+overflow_add-version c = omega (arith, part-told 0x30 _ _ _ c.in_ok-message.ensures refl, number-told _ _ _ c.in_ok-version.ensures refl)
 
-pub returns-in-Refused : goal.returns-in-Refused
-unfolding opening_of
-returns-in-Refused c = rw (← c.part_at.ensures, c.in-Refused.is)
+pub pdu_in-requires : goal.pdu_in-requires
+pdu_in-requires c = omega (arith, part-told 0x30 _ _ _ c.in_ok-message.ensures refl, part-told 0x04 _ _ _ c.in_ok-community.ensures refl)
 
-pub returns-in-At : goal.returns-in-At
-unfolding opening_of
-returns-in-At c = rw (← c.part_at.ensures, c.in-At.is) c.version_in.ensures
+pub overflow_add-e : goal.overflow_add-e
+overflow_add-e c = omega (arith, part-told 0x30 _ _ _ c.in_ok-message.ensures refl)
+
+pub invariant_of-e : goal.invariant_of-e
+invariant_of-e c = record { within = omega (arith, part-told 0x30 _ _ _ c.in_ok-message.ensures refl); short = omega (arith, part-told 0x30 _ _ _ c.in_ok-message.ensures refl) }

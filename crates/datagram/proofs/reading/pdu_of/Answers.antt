@@ -1,22 +1,24 @@
 -- `datagram::reading::pdu_of` meets its contract. Assumes nothing.
 use native.Mathlib.Omega.{arith}
-use mathlib.Core.Path.{◌∙◌}
+use Rattle.std.proofs.Common.{rules}
+use mathlib.Core.Path.{◌≡◌, refl, ◌∙◌}
+use Rattle.std.specs.Prelude.{Err}
 use Rattle.datagram.proofs.ReadLaws.{head-told, pdu-refused, pdu-leftover, pdu-whole}
-use Rattle.datagram.specs.Reading.{pdu_of}
 use Rattle.datagram.proofs.reading.pdu_of.Goals as goal
 
-pub read_bindings-listed-requires : goal.read_bindings-listed-requires
-read_bindings-listed-requires c = omega (arith, head-told c.args.kind c.args.s.now _ _ c.head_in.ensures c.in-Found.is)
+pub overflow_add-list : goal.overflow_add-list
+overflow_add-list c = omega (arith, head-told _ _ _ _ c.in_ok-head.ensures refl)
 
-pub returns-in-Refused : goal.returns-in-Refused
-unfolding pdu_of
-returns-in-Refused c = rw (← c.head_in.ensures, c.in-Refused.is) c.refused_as.ensures
+pub returns-in_err-listed : goal.returns-in_err-listed
+returns-in_err-listed c =
+    let k : c.from_residual-in_err-listed.result ≡ Err c.in_err-listed.field-0.0 = search rules in
+    k ∙ pdu-refused _ _ c.in_ok-head.ensures c.in_err-listed.ensures
 
 pub returns-then-list-pdu : goal.returns-then-list-pdu
-returns-then-list-pdu c = pdu-whole c.args.s.now c.args.kind c.args.community c.args.size c.args.at c.args.pdu c.args.end c.head_in.ensures c.in-Found.is c.read_bindings-listed.ensures c.if-listed.true c.if-list-pdu.true
+returns-then-list-pdu c = pdu-whole _ _ c.in_ok-head.ensures c.in_ok-listed.ensures c.if-list-pdu.true
 
-pub returns-else-list-pdu : goal.returns-else-list-pdu
-returns-else-list-pdu c = c.refused_as-else-list-pdu.ensures ∙ pdu-leftover c.args.s.now c.args.kind c.args.community c.args.size c.args.at c.args.pdu c.args.end c.head_in.ensures c.in-Found.is c.read_bindings-listed.ensures c.if-listed.true c.if-list-pdu.false
+pub returns : goal.returns
+returns c = pdu-leftover _ _ c.in_ok-head.ensures c.in_ok-listed.ensures c.if-list-pdu.false
 
-pub returns-else-listed : goal.returns-else-listed
-returns-else-listed c = c.refused_as-else-listed.ensures ∙ pdu-refused c.args.s.now c.args.kind c.args.community c.args.size c.args.at c.args.pdu c.args.end c.head_in.ensures c.in-Found.is c.read_bindings-listed.ensures c.if-listed.false
+pub invariant_of-list : goal.invariant_of-list
+invariant_of-list c = record { within = omega (arith, head-told _ _ _ _ c.in_ok-head.ensures refl); short = omega (arith, head-told _ _ _ _ c.in_ok-head.ensures refl) }

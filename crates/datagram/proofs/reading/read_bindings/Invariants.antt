@@ -4,7 +4,7 @@ use Rattle.datagram.proofs.LoopLaws.{Sofar}
 use Rattle.datagram.proofs.reading.read_bindings.Given as goal
 
 abbrev pub invariant-loop-at : goal.invariant-loop-at
-invariant-loop-at l = Sofar l.kind l.s l.from l.end l.bindings l.n l.at
+invariant-loop-at l = Sofar l.kind l.e.octets.now l.from l.e.end l.bindings l.count l.at
 
 abbrev pub decreases-loop-at : goal.decreases-loop-at
-decreases-loop-at l = 16 - l.n
+decreases-loop-at l = 16 - l.count
