@@ -8,11 +8,14 @@ use native.Mathlib.Nat.{pow-suc}
 use borrow.Author.Tests.{le-leb, lt-leb, lt-ltb, le-ltb, eqb-true, eqb-false, ne_eqb, ltb-true, leb-true}
 use lib.Dec.{leb, ltb, eqb}
 use lib.ListN.{length, get_or, drop, replicate, length-append}
+use Rattle.std.specs.Prelude.{Some, Result, Ok, Err, ⊤}
 use Rattle.octets.specs.Numbers.{be_at}
 use Rattle.octets.proofs.NumberLaws.{Octets}
 use Rattle.names.specs.SubIds.{subids, name_octets, SubIdsFit}
 use Rattle.names.proofs.SubIdLaws.{subids-step, subids-count, name_octets-subids, subids-fit}
 use Rattle.message.specs.declared.form.Role.TheVariants.{Answered}
+use Rattle.message.specs.declared.refusals.Reason.{Reason}
+use Rattle.message.specs.declared.refusals.Reason.TheVariants.{DatagramBroken}
 use Rattle.message.specs.Form.{tag_allowed, content_length}
 use Rattle.message.proofs.FormLaws.{clash}
 use Rattle.ber.specs.Ber.{fewest, sign, five, four, integer32, unsigned32, unsigned8, ends_from, name_whole, numbers_from, made, first_two, sub_ids, all_below, name_fits, content_tag, number_judged, content_judged, content_octets}
@@ -263,11 +266,11 @@ name_back name o l m f w =
 -- ## Contents
 
 pub record ContentBack (tag : ℕ) (xs : List ℕ) : Type 0 where
-  pub tagged : content_tag (ber_tag tag) ≡ tag
-  pub judged : content_judged tag (content_ber tag xs) ≡ 0
+  pub tagged : content_tag (ber_tag tag) ≡ Some tag
+  pub judged : content_judged tag (content_ber tag xs) ≡ Ok tt
   pub octets : content_octets tag (content_ber tag xs) ≡ xs
 
-number-judged : (short fits : Bool) → short ≡ true → fits ≡ true → number_judged short fits ≡ 0
+number-judged : (short fits : Bool) → short ≡ true → fits ≡ true → number_judged short fits ≡ Ok tt
 number-judged true true e f = refl
 number-judged true false e f = clash (cc)
 number-judged false fits e f = clash (cc)
@@ -277,7 +280,7 @@ not-empty xs h = ne_eqb (length xs) 0 (λ e. omega arith)
 
 -- a content of no octets
 module _ (xs : List ℕ) (e : eqb (length xs) 0 ≡ true) where
-  empty-judged : ◌≡◌ {A = ℕ} (cond (eqb (length xs) 0) 0 16) 0
+  empty-judged : ◌≡◌ {A = Result ⊤ Reason} (cond (eqb (length xs) 0) (Ok tt) (Err DatagramBroken)) (Ok tt)
   empty-judged = rw e
 
   empty-octets : cond (eqb (length xs) 0) [] (four xs) ≡ xs
@@ -289,7 +292,7 @@ module _ (xs : List ℕ) (e : eqb (length xs) 0 ≡ true) where
 
 -- a number of four octets
 module _ (xs : List ℕ) (e : eqb (length xs) 4 ≡ true) where
-  integer-judged : number_judged (fewest (shortened xs)) (integer32 (shortened xs)) ≡ 0
+  integer-judged : number_judged (fewest (shortened xs)) (integer32 (shortened xs)) ≡ Ok tt
   integer-judged =
       let l : length xs ≡ 4 = eqb-true (length xs) 4 e in
       number-judged (fewest (shortened xs)) (integer32 (shortened xs)) (fewest-shortened xs (omega arith)) (integer-fits xs l)
@@ -299,7 +302,7 @@ module _ (xs : List ℕ) (e : eqb (length xs) 4 ≡ true) where
       let l : length xs ≡ 4 = eqb-true (length xs) 4 e in
       rw (not-empty (shortened xs) (shortened-least xs (omega arith))) (four-integer xs l)
 
-  unsigned-judged : number_judged (fewest (shortened (0 ∷ xs))) (unsigned32 (shortened (0 ∷ xs))) ≡ 0
+  unsigned-judged : number_judged (fewest (shortened (0 ∷ xs))) (unsigned32 (shortened (0 ∷ xs))) ≡ Ok tt
   unsigned-judged =
       let l : length xs ≡ 4 = eqb-true (length xs) 4 e in
       number-judged (fewest (shortened (0 ∷ xs))) (unsigned32 (shortened (0 ∷ xs))) (fewest-shortened (0 ∷ xs) (omega arith)) (unsigned-fits xs l)

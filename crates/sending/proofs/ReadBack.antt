@@ -8,40 +8,55 @@ use borrow.Author.Tests.{le-leb, lt-leb, leb-true, lt-ltb, eq-eqb, eqb-true, ltb
 use lib.Dec.{leb, ltb, eqb}
 use lib.ListN.{length, get_or, length-append}
 use lib.Seq.{get_or_at}
+use Rattle.std.specs.Prelude.{Some, Result, Ok, Err, ⊤}
 use Rattle.octets.specs.Numbers.{be_at, be_octets}
 use Rattle.octets.specs.Parts.{part}
 use Rattle.octets.proofs.NumberLaws.{Octets, be_at-in, be_at-one, be_at-be_octets, length-be_octets}
 use Rattle.octets.proofs.PartLaws.{part_in, part-at}
 use Rattle.names.specs.SubIds.{name_octets}
-use Rattle.message.specs.declared.form.Field.TheVariants.{Whole}
+use Rattle.message.specs.declared.refusals.Reason.{Reason}
+use Rattle.message.specs.declared.refusals.Reason.TheVariants.{HeadWrong, NoCounterpart}
+use Rattle.message.specs.declared.request.Bound.{Bound as Read}
 use Rattle.message.specs.declared.form.Role.TheVariants.{Null, Value, Answered}
 use Rattle.message.specs.declared.request.Binding.{Binding}
-use Rattle.message.specs.Form.{tag_allowed}
-use Rattle.message.specs.Request.{kind_allowed, status_allowed, content_role}
+use Rattle.message.specs.Form.{field, tag_allowed}
+use Rattle.message.specs.Request.{read_to, kind_allowed, status_allowed, content_role}
 use Rattle.message.specs.Answer.{Bound, bound, most_octets}
 use Rattle.message.specs.Theorems as form
 use Rattle.message.proofs.FormLaws.{clash}
-use Rattle.ber.specs.declared.PartRead.TheVariants.{At}
+use Rattle.ber.specs.declared.Part.{Part}
 use Rattle.datagram.specs.declared.reading.Opening.{Opening}
 use Rattle.datagram.specs.declared.reading.PduHead.{PduHead}
-use Rattle.datagram.specs.declared.reading.BerBinding.{BerBinding}
 use Rattle.ber.specs.Ber.{length_octets, length_said, field_at, part_at, number_at, fewest, is_number, unsigned8, four, sub_ids, name_whole, name_fits, content_tag, content_judged, content_octets}
-use Rattle.datagram.specs.Reading.{takes_of, pdu_taken, pdu_in, community_in, version_in, opening_of, status_judged, status_at, last_at, list_in, index_in, status_in, head_in, content_in, name_in, binding_at, all, bindings_from, DatagramRead, pdu_of, read_datagram, message, bound_at}
+use Rattle.datagram.specs.Reading.{takes_of, pdu_taken, pdu_in, community_in, version_in, opening_of, status_judged, status_at, last_at, list_in, index_in, status_in, head_in, tag_taken, content_in, name_in, binding_at, bindings_from, Message, pdu_of, read_datagram, bound_at}
 use Rattle.sending.specs.Writing.{name_written, length_form, ber_octets, shortened, name_ber, ber_tag, content_ber, binding_ber, bindings_ber, response_ber, datagram_octets}
-use Rattle.sending.specs.Theorems.{AllCarried, ReadsBack}
+use Rattle.sending.specs.Theorems.{AllCarried, message_read, ReadsBack}
 use Rattle.sending.proofs.BackLaws.{fewest-shortened, shortened-least, four-integer, integer-fits, octet-fits, octet-last, NameBack, name_back, ContentBack, content-back}
+
+-- records by their fields
+abbrev at_part : (start len : ℕ) → Part
+at_part start len = record { start = start; len = len }
+
+abbrev opened : ℕ → Part → Part → ℕ → Opening
+opened kind community pdu end = record { kind = kind; community = community; pdu = pdu; end = end }
+
+abbrev head_of : (id status index : ℕ) → Part → PduHead
+head_of id status index list = record { id = id; status = status; index = index; list = list }
+
+abbrev bound_to : Binding → ℕ → Result Read Reason
+bound_to b next = Ok (read_to b next)
 
 -- ## Fields
 
 -- a length in the shortest form, with octets before it and after it
 module _ (s x : List ℕ) (n : ℕ) (z : List ℕ) (at end : ℕ) (e : length x ≡ at) where
-  length-one : n < 128 → s ≡ x ++ (n ∷ z) → at + 1 ≤ end → (length_octets s at end ≡ 1) × (length_said s at 1 ≡ n)
+  length-one : n < 128 → s ≡ x ++ (n ∷ z) → at + 1 ≤ end → (length_octets s at end ≡ Some 1) × (length_said s at 1 ≡ n)
   unfolding length_octets length_said
   length-one k is h =
       let g : get_or s at 0 ≡ n = ap (λ (u : List ℕ). get_or u at 0) is ∙ get_or_at x n z 0 at e in
       (rw (lt-ltb at end (omega arith), g, lt-ltb n 128 k), g)
 
-  length_two : s ≡ x ++ (0x81 ∷ n ∷ z) → at + 2 ≤ end → (length_octets s at end ≡ 2) × (length_said s at 2 ≡ n)
+  length_two : s ≡ x ++ (0x81 ∷ n ∷ z) → at + 2 ≤ end → (length_octets s at end ≡ Some 2) × (length_said s at 2 ≡ n)
   unfolding length_octets length_said
   length_two is h =
       let g : get_or s at 0 ≡ 0x81 = ap (λ (u : List ℕ). get_or u at 0) is ∙ get_or_at x 0x81 (n ∷ z) 0 at e in
@@ -50,7 +65,7 @@ module _ (s x : List ℕ) (n : ℕ) (z : List ℕ) (at end : ℕ) (e : length x 
       let v : get_or s (at + 1) 0 ≡ n = ap (λ (u : List ℕ). get_or u (at + 1) 0) i ∙ get_or_at (x ++ (0x81 ∷ [])) n z 0 (at + 1) l in
       (rw (lt-ltb at end (omega arith), g, le-leb (at + 2) end h), be_at-one s (at + 1) ∙ v)
 
-  length_three : n < 65536 → s ≡ x ++ (0x82 ∷ (be_octets 2 n ++ z)) → at + 3 ≤ end → (length_octets s at end ≡ 3) × (length_said s at 3 ≡ n)
+  length_three : n < 65536 → s ≡ x ++ (0x82 ∷ (be_octets 2 n ++ z)) → at + 3 ≤ end → (length_octets s at end ≡ Some 3) × (length_said s at 3 ≡ n)
   unfolding length_octets length_said
   length_three k is h =
       let g : get_or s at 0 ≡ 0x82 = ap (λ (u : List ℕ). get_or u at 0) is ∙ get_or_at x 0x82 (be_octets 2 n ++ z) 0 at e in
@@ -60,14 +75,14 @@ module _ (s x : List ℕ) (n : ℕ) (z : List ℕ) (at end : ℕ) (e : length x 
       (rw (lt-ltb at end (omega arith), g, le-leb (at + 3) end h), v)
 
   length_back : n < 65536 → s ≡ x ++ (length_form n ++ z) → at + length (length_form n) ≤ end
-      → (0 < length (length_form n)) × (length_octets s at end ≡ length (length_form n)) × (length_said s at (length (length_form n)) ≡ n)
+      → (0 < length (length_form n)) × (length_octets s at end ≡ Some (length (length_form n))) × (length_said s at (length (length_form n)) ≡ n)
   unfolding length_form
   length_back k = go (ltb n 128) (ltb n 256) refl
     where
       go : (a b : Bool) → ltb n 128 ≡ a → s ≡ x ++ (cond a (n ∷ []) (cond b (0x81 ∷ n ∷ []) (0x82 ∷ be_octets 2 n)) ++ z)
           → at + length (cond a (n ∷ []) (cond b (0x81 ∷ n ∷ []) (0x82 ∷ be_octets 2 n))) ≤ end
           → (0 < length (cond a (n ∷ []) (cond b (0x81 ∷ n ∷ []) (0x82 ∷ be_octets 2 n))))
-          × (length_octets s at end ≡ length (cond a (n ∷ []) (cond b (0x81 ∷ n ∷ []) (0x82 ∷ be_octets 2 n))))
+          × (length_octets s at end ≡ Some (length (cond a (n ∷ []) (cond b (0x81 ∷ n ∷ []) (0x82 ∷ be_octets 2 n)))))
           × (length_said s at (length (cond a (n ∷ []) (cond b (0x81 ∷ n ∷ []) (0x82 ∷ be_octets 2 n)))) ≡ n)
       go true b q is h = let (o, v) = length-one (ltb-true n 128 q) is h in (omega arith, o, v)
       go false true q is h = let (o, v) = length_two is h in (omega arith, o, v)
@@ -76,14 +91,14 @@ module _ (s x : List ℕ) (n : ℕ) (z : List ℕ) (at end : ℕ) (e : length x 
           let (o, v) = length_three k is (omega arith) in
           rw l (omega arith, o, v)
 
-field_of : (s : List ℕ) (at end k n tag : ℕ) → 0 < k → length_octets s (at + 1) end ≡ k → length_said s (at + 1) k ≡ n → get_or s at 0 ≡ tag → at + 1 + k + n ≤ end → field_at s at end ≡ Whole tag (at + 1 + k) n
+field_of : (s : List ℕ) (at end k n tag : ℕ) → length_octets s (at + 1) end ≡ Some k → length_said s (at + 1) k ≡ n → get_or s at 0 ≡ tag → at + 1 + k + n ≤ end → field_at s at end ≡ Some (field tag (at + 1 + k) n)
 unfolding field_at
-field_of s at end k n tag p a b t h = rw (a, lt-ltb 0 k p, b, t, le-leb (at + 1 + k + n) end h)
+field_of s at end k n tag a b t h = rw (a, b, t, le-leb (at + 1 + k + n) end h)
 
 -- a field that was written, where it stands in s: its contents are c, and z follows it
 pub record FieldBack (s : List ℕ) (at end tag : ℕ) (c z : List ℕ) : Type 0 where
   pub start : ℕ
-  pub here : field_at s at end ≡ Whole tag start (length c)
+  pub here : field_at s at end ≡ Some (field tag start (length c))
   pub contents : part s start (length c) ≡ c
   pub before : List ℕ
   pub stands : s ≡ before ++ (c ++ z)
@@ -104,12 +119,12 @@ field_back s x tag c z at end is e h k =
     let y : List ℕ = x ++ (tag ∷ []) in
     let ly : length y ≡ at + 1 = length-append x (tag ∷ []) ∙ omega arith in
     let j : s ≡ y ++ (f ++ (c ++ z)) = i ∙ sym (append_assoc x (tag ∷ []) (f ++ (c ++ z))) in
-    let b : (0 < length f) × (length_octets s (at + 1) end ≡ length f) × (length_said s (at + 1) (length f) ≡ n) = length_back s y n (c ++ z) (at + 1) end ly (omega arith) j (omega arith) in
+    let b : (0 < length f) × (length_octets s (at + 1) end ≡ Some (length f)) × (length_said s (at + 1) (length f) ≡ n) = length_back s y n (c ++ z) (at + 1) end ly (omega arith) j (omega arith) in
     let g : s ≡ (y ++ f) ++ (c ++ z) = j ∙ sym (append_assoc y f (c ++ z)) in
     let lg : length (y ++ f) ≡ at + 1 + length f = length-append y f ∙ omega arith in
     record {
       start = at + 1 + length f;
-      here = field_of s at end (length f) n tag b.0 b.1 b.2 t (omega arith);
+      here = field_of s at end (length f) n tag b.1 b.2 t (omega arith);
       contents = part_in s (y ++ f) c z (at + 1 + length f) g lg;
       before = y ++ f;
       stands = g;
@@ -136,22 +151,22 @@ last-in x c e = e ∙ ap (λ (u : List ℕ). x ++ u) (append-nil c)
 last_out : {s : List ℕ} (x c : List ℕ) → s ≡ x ++ c → s ≡ x ++ (c ++ [])
 last_out x c e = e ∙ ap (λ (u : List ℕ). x ++ u) (sym (append-nil c))
 
-part-here : (s : List ℕ) (at end tag start len : ℕ) → field_at s at end ≡ Whole tag start len → part_at tag s at end ≡ At start len
+part-here : (s : List ℕ) (at end tag start len : ℕ) → field_at s at end ≡ Some (field tag start len) → part_at tag s at end ≡ Ok (record { start = start; len = len })
 unfolding part_at
 part-here s at end tag start len e = rw (e, eq-eqb tag tag refl)
 
-number-here : (s : List ℕ) (at end start len : ℕ) (c : List ℕ) → field_at s at end ≡ Whole 0x02 start len → part s start len ≡ c → fewest c ≡ true → number_at s at end ≡ At start len
+number-here : (s : List ℕ) (at end start len : ℕ) (c : List ℕ) → field_at s at end ≡ Some (field 0x02 start len) → part s start len ≡ c → fewest c ≡ true → number_at s at end ≡ Ok (record { start = start; len = len })
 unfolding number_at
 number-here s at end start len c e p f = rw (part-here s at end 0x02 start len e, p, f)
 
 -- ## Bindings
 
 -- the fields of a binding, one in the other
-binding-read : (kind : ℕ) (s : List ℕ) (at end from len name size content clen t tag : ℕ) (n c : List ℕ) → field_at s at end ≡ Whole 0x30 from len → field_at s from (from + len) ≡ Whole 0x06 name size
-    → part s name size ≡ n → name_whole n ≡ true → name_fits n ≡ true → field_at s (name + size) (from + len) ≡ Whole t content clen → content_tag t ≡ tag → tag_allowed (content_role kind) tag ≡ true
-    → part s content clen ≡ c → content_judged tag c ≡ 0 → from + len ≤ content + clen
-    → binding_at kind s at end ≡ BerBinding.Bound (record { name = name; size = size; tag = tag; content = content; len = clen }) (from + len)
-unfolding binding_at name_in content_in
+binding-read : (kind : ℕ) (s : List ℕ) (at end from len name size content clen t tag : ℕ) (n c : List ℕ) → field_at s at end ≡ Some (field 0x30 from len) → field_at s from (from + len) ≡ Some (field 0x06 name size)
+    → part s name size ≡ n → name_whole n ≡ true → name_fits n ≡ true → field_at s (name + size) (from + len) ≡ Some (field t content clen) → content_tag t ≡ Some tag → tag_allowed (content_role kind) tag ≡ true
+    → part s content clen ≡ c → content_judged tag c ≡ Ok tt → from + len ≤ content + clen
+    → binding_at kind s at end ≡ Ok (read_to (record { name = name; size = size; tag = tag; content = content; len = clen }) (from + len))
+unfolding binding_at name_in content_in tag_taken
 binding-read kind s at end from len name size content clen t tag n c o i p w f g k a q j h =
     rw (part-here s at end 0x30 from len o, part-here s from (from + len) 0x06 name size i, p, w, f, g, k, a, q, j, le-leb (from + len) (content + clen) h)
 
@@ -181,7 +196,7 @@ answered kind tag = go (eqb kind 3) (eqb kind 2)
     go false false e = rw (eqb-true tag 0x20 e)
 
 binding-back : (kind : ℕ) (s x : List ℕ) (b : Bound) (z : List ℕ) (at end : ℕ) → s ≡ x ++ (binding_ber b ++ z) → length x ≡ at → at + length (binding_ber b) ≤ end → end < 65536 → CarriedBy kind b
-    → (r : Binding) × (binding_at kind s at end ≡ BerBinding.Bound r (at + length (binding_ber b))) × (bound_at s r ≡ b)
+    → (r : Binding) × (binding_at kind s at end ≡ Ok (read_to r (at + length (binding_ber b)))) × (bound_at s r ≡ b)
 unfolding binding_ber bound_at
 binding-back kind s x b z at end is e h k w =
     let v = w.carried in
@@ -204,13 +219,13 @@ binding-back kind s x b z at end is e h k w =
       r,
       binding-read kind s at end o.start (length (f ++ g)) n.start (length name) c.start (length content) (ber_tag b.tag) b.tag name content
           o.here n.here n.contents nb.whole nb.fits c.here cb.tagged v.tagged c.contents cb.judged d
-          ∙ ap (BerBinding.Bound r) o.next,
+          ∙ ap (λ (n : ℕ). bound_to r n) o.next,
       ap₂ (λ (u t : List ℕ). bound u b.tag t)
           (ap (λ (u : List ℕ). name_octets (sub_ids u)) n.contents ∙ nb.octets)
           (ap (content_octets b.tag) c.contents ∙ cb.octets),
     )
 
-none_left : (kind : ℕ) (s : List ℕ) (left at : ℕ) → length s ≡ at → bindings_from kind s (length s) left at ≡ all []
+none_left : (kind : ℕ) (s : List ℕ) (left at : ℕ) → length s ≡ at → bindings_from kind s (length s) left at ≡ Ok []
 unfolding bindings_from
 none_left kind s zero at e = rw (le-leb (length s) at (omega arith))
 none_left kind s (suc left) at e = rw (le-leb (length s) at (omega arith))
@@ -221,7 +236,7 @@ some-ber b = omega arith
 
 -- the bindings to the end
 bindings-back : (kind : ℕ) (s : List ℕ) (bs : List Bound) (x : List ℕ) (left at : ℕ) → s ≡ x ++ bindings_ber bs → length x ≡ at → length s < 65536 → length bs ≤ left → AllCarriedBy kind bs
-    → (rs : List Binding) × (bindings_from kind s (length s) left at ≡ all rs) × (map (bound_at s) rs ≡ bs)
+    → (rs : List Binding) × (bindings_from kind s (length s) left at ≡ Ok rs) × (map (bound_at s) rs ≡ bs)
 unfolding bindings_ber bindings_from
 bindings-back kind s [] x left at is e k h w = ([], none_left kind s left at (ap length (is ∙ append-nil x) ∙ e), refl)
 bindings-back kind s (b ∷ bs) x zero at is e k h w = absurd (omega arith)
@@ -237,9 +252,9 @@ bindings-back kind s (b ∷ bs) x (suc left) at is e k h w =
 
 -- ## The whole
 
-opening-read : (answers : Bool) (kind : ℕ) (s : List ℕ) (from len version community size pdu plen : ℕ) → kind_allowed (takes_of answers) kind ≡ true → field_at s 0 (length s) ≡ Whole 0x30 from len → field_at s from (from + len) ≡ Whole 0x02 version 1
-    → part s version 1 ≡ 1 ∷ [] → field_at s (version + 1) (from + len) ≡ Whole 0x04 community size → field_at s (community + size) (from + len) ≡ Whole (0xA0 + kind) pdu plen
-    → opening_of answers s ≡ Opening.Opened kind community size pdu (pdu + plen) (from + len)
+opening-read : (answers : Bool) (kind : ℕ) (s : List ℕ) (from len version community size pdu plen : ℕ) → kind_allowed (takes_of answers) kind ≡ true → field_at s 0 (length s) ≡ Some (field 0x30 from len) → field_at s from (from + len) ≡ Some (field 0x02 version 1)
+    → part s version 1 ≡ 1 ∷ [] → field_at s (version + 1) (from + len) ≡ Some (field 0x04 community size) → field_at s (community + size) (from + len) ≡ Some (field (0xA0 + kind) pdu plen)
+    → opening_of answers s ≡ Ok (opened kind (at_part community size) (at_part pdu plen) (from + len))
 unfolding opening_of version_in community_in pdu_in pdu_taken is_number fewest
 opening-read answers kind s from len version community size pdu plen t o v p c d =
     let i : 0xA0 + kind - 0xA0 ≡ kind = omega arith in
@@ -258,23 +273,23 @@ number-none : (n : ℕ) → n ≡ 0 → is_number 0 (shortened (0 ∷ n ∷ []))
 unfolding is_number shortened fewest
 number-none n z = rw z
 
-right-status : (kind n : ℕ) → (eqb kind 2 || eqb n 0) ≡ true → status_judged kind (shortened (0 ∷ n ∷ [])) ≡ 0
+right-status : (kind n : ℕ) → (eqb kind 2 || eqb n 0) ≡ true → status_judged kind (shortened (0 ∷ n ∷ [])) ≡ Ok tt
 unfolding status_judged
 right-status kind n = go (eqb kind 2) (eqb n 0) refl
   where
-    either : (t : Bool) → ◌≡◌ {A = ℕ} (cond t 0 0) 0
+    either : (t : Bool) → ◌≡◌ {A = Result ⊤ Reason} (cond t (Ok tt) (Ok tt)) (Ok tt)
     either true = refl
     either false = refl
 
     go : (a b : Bool) → eqb n 0 ≡ b → (a || b) ≡ true
-        → ◌≡◌ {A = ℕ} (cond (is_number 0 (shortened (0 ∷ n ∷ []))) 0 (cond a (cond (unsigned8 (shortened (0 ∷ n ∷ []))) 0 19) 7)) 0
+        → ◌≡◌ {A = Result ⊤ Reason} (cond (is_number 0 (shortened (0 ∷ n ∷ []))) (Ok tt) (cond a (cond (unsigned8 (shortened (0 ∷ n ∷ []))) (Ok tt) (Err NoCounterpart)) (Err HeadWrong))) (Ok tt)
     go true b q e = rw (octet-fits n) (either (is_number 0 (shortened (0 ∷ n ∷ []))))
     go false true q e = rw (number-none n (eqb-true n 0 q))
     go false false q e = clash (cc)
 
 -- a status or an index: 0 in a request
-status-here : (kind : ℕ) (s : List ℕ) (at end start n : ℕ) → (eqb kind 2 || eqb n 0) ≡ true → field_at s at end ≡ Whole 0x02 start (length (shortened (0 ∷ n ∷ []))) → part s start (length (shortened (0 ∷ n ∷ []))) ≡ shortened (0 ∷ n ∷ [])
-    → (status_at kind s at end ≡ At start (length (shortened (0 ∷ n ∷ [])))) × (last_at s start (length (shortened (0 ∷ n ∷ []))) ≡ n)
+status-here : (kind : ℕ) (s : List ℕ) (at end start n : ℕ) → (eqb kind 2 || eqb n 0) ≡ true → field_at s at end ≡ Some (field 0x02 start (length (shortened (0 ∷ n ∷ [])))) → part s start (length (shortened (0 ∷ n ∷ []))) ≡ shortened (0 ∷ n ∷ [])
+    → (status_at kind s at end ≡ Ok (at_part start (length (shortened (0 ∷ n ∷ []))))) × (last_at s (at_part start (length (shortened (0 ∷ n ∷ [])))) ≡ n)
 unfolding status_at
 status-here kind s at end start n t e p =
     let c : List ℕ = shortened (0 ∷ n ∷ []) in
@@ -285,10 +300,10 @@ status-here kind s at end start n t e p =
     )
 
 head_read : (kind : ℕ) (s : List ℕ) (at end i t x list len id status index tlen xlen : ℕ) → id < 2 ^ 32
-    → field_at s at end ≡ Whole 0x02 i (length (shortened (be_octets 4 id))) → part s i (length (shortened (be_octets 4 id))) ≡ shortened (be_octets 4 id)
-    → status_at kind s (i + length (shortened (be_octets 4 id))) end ≡ At t tlen → last_at s t tlen ≡ status
-    → status_at kind s (t + tlen) end ≡ At x xlen → last_at s x xlen ≡ index
-    → field_at s (x + xlen) end ≡ Whole 0x30 list len → head_in kind s at end ≡ PduHead.Found id status index list (list + len)
+    → field_at s at end ≡ Some (field 0x02 i (length (shortened (be_octets 4 id)))) → part s i (length (shortened (be_octets 4 id))) ≡ shortened (be_octets 4 id)
+    → status_at kind s (i + length (shortened (be_octets 4 id))) end ≡ Ok (at_part t tlen) → last_at s (at_part t tlen) ≡ status
+    → status_at kind s (t + tlen) end ≡ Ok (at_part x xlen) → last_at s (at_part x xlen) ≡ index
+    → field_at s (x + xlen) end ≡ Some (field 0x30 list len) → head_in kind s at end ≡ Ok (head_of id status index (at_part list len))
 unfolding head_in status_in index_in list_in
 head_read kind s at end i t x list len id status index tlen xlen k e p f a g b l =
     let c : List ℕ = be_octets 4 id in
@@ -306,16 +321,17 @@ head_read kind s at end i t x list len id status index tlen xlen k e p f a g b l
       part-here s (x + xlen) end 0x30 list len l,
     )
 
-pdu-read : (s : List ℕ) (kind community size at pdu end id status index from list : ℕ) (rs : List Binding) → head_in kind s at pdu ≡ PduHead.Found id status index from list
-    → bindings_from kind s (length s) 16 from ≡ all rs → list ≡ length s → pdu ≡ length s → end ≡ length s → pdu_of s kind community size at pdu end ≡ message kind id status index community size rs
+pdu-read : (s : List ℕ) (o : Opening) (h : PduHead) (rs : List Binding) → head_in o.kind s o.pdu.start (o.pdu.start + o.pdu.len) ≡ Ok h
+    → bindings_from o.kind s (length s) 16 h.list.start ≡ Ok rs → h.list.start + h.list.len ≡ length s → o.pdu.start + o.pdu.len ≡ length s → o.end ≡ length s
+    → pdu_of s o ≡ Ok (record { kind = o.kind; id = h.id; status = h.status; index = h.index; community = o.community; bindings = rs })
 unfolding pdu_of
-pdu-read s kind community size at pdu end id status index from list rs h b l p e =
-    let f : bindings_from kind s list 16 from ≡ all rs = ap (λ (n : ℕ). bindings_from kind s n 16 from) l ∙ b in
-    rw (h, f, eq-eqb list pdu (l ∙ sym p), eq-eqb pdu end (p ∙ sym e), eq-eqb end (length s) e)
+pdu-read s o h rs q b l p e =
+    let f : bindings_from o.kind s (h.list.start + h.list.len) 16 h.list.start ≡ Ok rs = ap (λ (n : ℕ). bindings_from o.kind s n 16 h.list.start) l ∙ b in
+    rw (q, f, eq-eqb (h.list.start + h.list.len) (o.pdu.start + o.pdu.len) (l ∙ sym p), eq-eqb (o.pdu.start + o.pdu.len) o.end (p ∙ sym e), eq-eqb o.end (length s) e)
 
-whole-read : (answers : Bool) (s : List ℕ) (kind community size at pdu end : ℕ) {x : DatagramRead} → opening_of answers s ≡ Opening.Opened kind community size at pdu end → pdu_of s kind community size at pdu end ≡ x → read_datagram answers s ≡ x
+whole-read : (answers : Bool) (s : List ℕ) (o : Opening) {x : Result Message Reason} → opening_of answers s ≡ Ok o → pdu_of s o ≡ x → read_datagram answers s ≡ x
 unfolding read_datagram
-whole-read answers s kind community size at pdu end e f = rw e f
+whole-read answers s o e f = rw e f
 
 both-quiet : (kind status index : ℕ) → status_allowed kind status index ≡ true → ((eqb kind 2 || eqb status 0) ≡ true) × ((eqb kind 2 || eqb index 0) ≡ true)
 unfolding status_allowed
@@ -328,13 +344,14 @@ both-quiet kind status index = go (eqb kind 2) (eqb status 0) (eqb index 0)
     go false false c e = clash (cc)
 
 -- what a PDU holds that ends with s
-body_back : (kind : ℕ) (s : List ℕ) (id status index : ℕ) (bs : List Bound) (x : List ℕ) (at pdu : ℕ)
+body_back : (kind : ℕ) (s : List ℕ) (id status index : ℕ) (bs : List Bound) (x : List ℕ) (at plen : ℕ)
     → s ≡ x ++ (ber_octets 0x02 (shortened (be_octets 4 id)) ++ (ber_octets 0x02 (shortened (0 ∷ status ∷ [])) ++ (ber_octets 0x02 (shortened (0 ∷ index ∷ [])) ++ ber_octets 0x30 (bindings_ber bs))))
-    → length x ≡ at → pdu ≡ length s → length s < 65536 → status_allowed kind status index ≡ true → id < 2 ^ 32 → length bs ≤ 16 → AllCarriedBy kind bs
+    → length x ≡ at → at + plen ≡ length s → length s < 65536 → status_allowed kind status index ≡ true → id < 2 ^ 32 → length bs ≤ 16 → AllCarriedBy kind bs
     → (rs : List Binding)
-    × ((community size end : ℕ) → end ≡ length s → pdu_of s kind community size at pdu end ≡ message kind id status index community size rs)
+    × ((community size end : ℕ) → end ≡ length s → pdu_of s (opened kind (at_part community size) (at_part at plen) end) ≡ Ok (message_read kind id status index community size rs))
     × (map (bound_at s) rs ≡ bs)
-body_back kind s id status index bs y at pdu is e pend small quiet h few w =
+body_back kind s id status index bs y at plen is e pend small quiet h few w =
+    let pdu : ℕ = at + plen in
     let num : List ℕ = shortened (be_octets 4 id) in
     let sta : List ℕ = shortened (0 ∷ status ∷ []) in
     let ind : List ℕ = shortened (0 ∷ index ∷ []) in
@@ -352,7 +369,7 @@ body_back kind s id status index bs y at pdu is e pend small quiet h few w =
     let (rs, br, q) = bindings-back kind s bs l.before 16 l.start (last-in l.before (bindings_ber bs) l.stands) l.placed small few w in (
       rs,
       (λ community size end oend.
-          pdu-read s kind community size at pdu end id status index l.start (l.start + length (bindings_ber bs)) rs
+          pdu-read s (opened kind (at_part community size) (at_part at plen) end) (head_of id status index (at_part l.start (length (bindings_ber bs)))) rs
           (head_read kind s at pdu i.start t.start x.start l.start (length (bindings_ber bs)) id status index (length sta) (length ind) h i.here i.contents ts tv xs xv l.here)
           br lend pend oend),
       q,
@@ -376,7 +393,7 @@ any-response community id status index bs = refl
 pub any-back : (answers : Bool) (kind : ℕ) (community : List ℕ) (id status index : ℕ) (bs : List Bound) → kind_allowed (takes_of answers) kind ≡ true → status_allowed kind status index ≡ true
     → id < 2 ^ 32 → length bs ≤ 16 → AllCarriedBy kind bs → length (any_octets kind community id status index bs) ≤ most_octets
     → (at : ℕ) × (rs : List Binding)
-    × (read_datagram answers (any_octets kind community id status index bs) ≡ message kind id status index at (length community) rs)
+    × (read_datagram answers (any_octets kind community id status index bs) ≡ Ok (message_read kind id status index at (length community) rs))
     × (map (bound_at (any_octets kind community id status index bs)) rs ≡ bs)
     × (part (any_octets kind community id status index bs) at (length community) ≡ community)
 unfolding any_octets
@@ -402,10 +419,10 @@ any-back answers kind community id status index bs taken quiet h few w most =
     let p : FieldBack s (c.start + length community) (o.start + length inner) (0xA0 + kind) body [] =
     field_in s c.after (0xA0 + kind) body [] (c.start + length community) (o.start + length inner) (last_out c.after pdu c.goes) c.reached oend small in
     let pend : p.start + length body ≡ n = field-ends s (c.start + length community) (o.start + length inner) (0xA0 + kind) body p in
-    let (rs, r, q) = body_back kind s id status index bs p.before p.start (p.start + length body) (last-in p.before body p.stands) p.placed pend small quiet h few w in (
+    let (rs, r, q) = body_back kind s id status index bs p.before p.start (length body) (last-in p.before body p.stands) p.placed pend small quiet h few w in (
       c.start,
       rs,
-      whole-read answers s kind c.start (length community) p.start (p.start + length body) (o.start + length inner)
+      whole-read answers s (opened kind (at_part c.start (length community)) (at_part p.start (length body)) (o.start + length inner))
           (opening-read answers kind s o.start (length inner) v.start c.start (length community) p.start (length body) taken o.here v.here v.contents c.here p.here)
           (r c.start (length community) (o.start + length inner) oend),
       q,

@@ -1,23 +1,26 @@
 -- The loop over the bindings of a response, as laws of `responses_from`. Assumes nothing.
-use Prim.Native.Nat.{ℕ, zero, suc, ◌+◌, ◌%◌, ◌≤◌, ◌<◌}
-use mathlib.Core.Path.{◌≡◌}
+use Prim.Native.Nat.{ℕ, zero, suc, ◌+◌, ◌-◌, ◌%◌, ◌≤◌, ◌<◌}
+use mathlib.Core.Path.{◌≡◌, sym, ap, ◌∙◌}
 use mathlib.Core.Bool.{true, ◌&&◌}
 use lib.Dec.{leb, eqb}
-use mathlib.Core.List.{List, [], ◌++◌, append-nil}
+use Rattle.std.specs.Prelude.{Result, Ok, Err}
+use mathlib.Core.List.{List, [], ◌∷◌, ◌++◌, append-nil}
+use native.Mathlib.Numerals.{add-one}
+use native.Mathlib.Omega.{arith}
 use borrow.Author.Tests.{le-leb, lt-leb, leb-true}
-use lib.ListN.{length, take, set, replicate}
+use lib.ListN.{length, take, set, length-set}
+use lib.Seq.{take-suc-set}
 use Rattle.octets.proofs.BoolLaws.{left-of}
 use Rattle.message.specs.declared.form.Refusal.{Refusal}
 use Rattle.message.specs.declared.request.Binding.{Binding}
-use Rattle.message.specs.declared.request.BindingRead.{BindingRead}
+use Rattle.message.specs.declared.request.Bound.{Bound}
 use Rattle.message.specs.Form.{checked_at, length_right}
-use Rattle.message.specs.declared.form.Checked.{Checked}
+use Rattle.message.specs.declared.form.Field.{Field}
 use Rattle.message.specs.declared.form.Role.TheVariants.{Name}
 use Rattle.message.proofs.FormLaws.{told}
-use Rattle.message.specs.Request.{no_binding, ended, all, prepend, binding_then, seventeenth}
+use Rattle.message.specs.Request.{Bindings, read_to, ended, all, prepend, binding_then, seventeenth}
 use Rattle.message.proofs.LoopLaws.{prefixed, prefixed-none, prefixed-one}
-use Rattle.sending.specs.Writing.{response_at, responses_from, no_refusal, answers_of}
-use Rattle.datagram.proofs.ListLaws.{Listing, listing_none, listing-more, listing-ends, listing-stops, listing_full}
+use Rattle.sending.specs.Writing.{response_at, responses_from}
 
 module _ (s : List ℕ) where
   from_end : (left at : ℕ) → length s ≤ at → responses_from s left at ≡ all []
@@ -33,29 +36,47 @@ module _ (s : List ℕ) where
   unfolding responses_from
   from_last at h = rw (lt-leb (length s) at h)
 
--- n bindings are read, and the next place is `at`
-abbrev pub Sofar : (s : List ℕ) (bs : List Binding) (n at : ℕ) → Type 0
-Sofar s bs n at = Listing prefixed (responses_from s) 16 bs n at
+-- n bindings are read into the array, and the next place is `at`
+pub record Sofar (s : List ℕ) (bs : List Binding) (n at : ℕ) : Type 0 where
+  pub long : length bs ≡ 16
+  pub few : n ≤ 16
+  pub rest : prefixed (take n bs) (responses_from s (16 - n) at) ≡ responses_from s 16 16
 
-pub sofar-none : (s : List ℕ) → Sofar s (replicate 16 no_binding) 0 16
-sofar-none s = listing_none prefixed (responses_from s) 16 prefixed-none
+pub sofar-none : (s : List ℕ) {bs : List Binding} → length bs ≡ 16 → Sofar s bs 0 16
+sofar-none s h = record { long = h; few = omega arith; rest = prefixed-none (responses_from s 16 16) }
 
 module _ (s : List ℕ) {bs : List Binding} {n at : ℕ} (w : Sofar s bs n at) where
-  pub sofar-more : {b : Binding} {next : ℕ} {k : BindingRead} → n < 16 → at < length s → k ≡ response_at s at → k ≡ BindingRead.Bound b next → Sofar s (set bs n b) (n + 1) next
-  sofar-more {b} {next} hn ha e h = listing-more w prepend prefixed-one b next hn (λ left. rw (from-ber-binding s left at ha, ← e, h))
+  -- what is left is known whatever may still be read
+  ended-with : (x : Bindings) → responses_from s (16 - n) at ≡ x → prefixed (take n bs) x ≡ responses_from s 16 16
+  ended-with x e = ap (prefixed (take n bs)) (sym e) ∙ w.rest
 
-  pub sofar-all : length s ≤ at → record { whole = true; refusal = no_refusal; count = n; bindings = bs } ≡ answers_of (responses_from s 16 16)
-  sofar-all h =
-      let whole : all (take n bs ++ []) ≡ responses_from s 16 16 = listing-ends w (all []) (λ left. from_end s left at h) in
-      rw (← whole, append-nil (take n bs), w.counted, ← w.filled)
+  one-more : n < 16 → at < length s → {k : Result Bound Refusal} → k ≡ response_at s at → responses_from s (16 - n) at ≡ binding_then k (λ next. responses_from s (16 - (n + 1)) next)
+  one-more hn ha e =
+      let k : 16 - n ≡ suc (16 - (n + 1)) = omega arith in
+      rw (k, e) (from-ber-binding s (16 - (n + 1)) at ha)
 
-  pub sofar-refused : {r : Refusal} {k : BindingRead} → n < 16 → at < length s → k ≡ response_at s at → k ≡ BindingRead.Refused r → ended r ≡ responses_from s 16 16
-  sofar-refused {r} hn ha e h = listing-stops w (ended r) hn (λ left. rw (from-ber-binding s left at ha, ← e, h))
+  pub sofar-more : {b : Binding} {next : ℕ} {k : Result Bound Refusal} → n < 16 → at < length s → k ≡ response_at s at → k ≡ Ok (read_to b next) → Sofar s (set bs n b) (n + 1) next
+  sofar-more {b} {next} hn ha e h =
+      let taken : take (n + 1) (set bs n b) ≡ take n bs ++ (b ∷ []) = rw (add-one n) (take-suc-set bs n b (omega (arith, w.long))) in
+      record {
+        long = length-set bs n b ∙ w.long;
+        few = omega arith;
+        rest = rw taken (prefixed-one (take n bs) b (responses_from s (16 - (n + 1)) next) ∙ ended-with (prepend b (responses_from s (16 - (n + 1)) next)) (one-more hn ha e ∙ rw h));
+      }
+
+  pub sofar-all : length s ≤ at → all (take n bs) ≡ responses_from s 16 16
+  sofar-all h = sym (ap all (append-nil (take n bs))) ∙ ended-with (all []) (from_end s (16 - n) at h)
+
+  pub sofar-refused : {r : Refusal} {k : Result Bound Refusal} → n < 16 → at < length s → k ≡ response_at s at → k ≡ Err r → ended r ≡ responses_from s 16 16
+  sofar-refused {r} hn ha e h = ended-with (ended r) (one-more hn ha e ∙ rw h)
 
   pub sofar-full : 16 ≤ n → at < length s → ended (seventeenth s at) ≡ responses_from s 16 16
-  sofar-full hn ha = listing_full w (ended (seventeenth s at)) hn (from_last s at ha)
+  sofar-full hn ha = ended-with (ended (seventeenth s at)) (let k : 16 - n ≡ 0 = omega arith in rw k (from_last s at ha))
 
 -- a name in its place has eight octets at least
-pub name-long : (s : List ℕ) (at end : ℕ) {k : Checked} {tag start len : ℕ} → k ≡ checked_at Name s at end → k ≡ Checked.Found tag start len → 8 ≤ len
+pub name_found : (s : List ℕ) (at : ℕ) {end : ℕ} {k : Result Field Refusal} {f : Field} → k ≡ checked_at Name s at end → k ≡ Ok f → end ≤ length s → f.start + 8 ≤ length s
 unfolding length_right
-name-long s at end {len = len} e h = leb-true 8 len (left-of (leb 8 len) (leb len 512) (left-of (leb 8 len && leb len 512) (eqb (len % 4) 0) (told s e h).right))
+name_found s at {f = f} e h l =
+    let w = told s e h in
+    let n : 8 ≤ f.len = leb-true 8 f.len (left-of (leb 8 f.len) (leb f.len 512) (left-of (leb 8 f.len && leb f.len 512) (eqb (f.len % 4) 0) w.right)) in
+    omega (arith, w.within)

@@ -4,34 +4,34 @@ use mathlib.Core.Path.{◌≡◌, refl, sym, ap, subst, ◌∙◌}
 use mathlib.Core.Bool.{true, false, ◌&&◌}
 use mathlib.Core.List.{List, [], ◌∷◌, ◌++◌, map, append_assoc}
 use native.Mathlib.Omega.{arith}
+use native.Mathlib.Numerals.{add-one}
 use borrow.Author.Tests.{leb-true, leb-false, eqb-true, le-leb, lt-leb, lt-ltb, le-ltb}
 use lib.Dec.{leb, eqb}
-use lib.ListN.{length, get_or, take, drop, replicate, length-append, length-replicate, get_or-append}
-use lib.Seq.{drop_at, take_at, length-take-le}
+use lib.ListN.{length, get_or, take, drop, replicate, length-append, length-replicate, drop_of_length-le}
+use lib.Seq.{drop-cons, drop_at, take_at, length-take-le}
+use Rattle.std.specs.Int.{to_be_bytes}
+use mir.Syntax.{w32}
 use Rattle.octets.specs.Numbers.{be_octets}
 use Rattle.octets.specs.Parts.{part, patch}
 use Rattle.octets.proofs.NumberLaws.{length-be_octets}
 use Rattle.octets.proofs.PartLaws.{patch-none, patch-patch, part_length}
-use Rattle.octets.proofs.ListLaws.{left-none, left-turn}
 use Rattle.octets.proofs.BoolLaws.{both}
+use Rattle.std.specs.Prelude.{Option, Some, None, Result, Ok, Err, IsErrAnd}
+use Rattle.message.specs.Refusals.{number_of}
 use Rattle.message.specs.declared.form.Field.{Field}
-use Rattle.message.specs.declared.form.Field.TheVariants.{Cut, Whole}
 use Rattle.message.specs.declared.form.Role.{Role}
 use Rattle.message.specs.declared.form.Role.TheVariants.{Kind, Id, Status, Bind, Name, Answered}
 use Rattle.message.specs.declared.form.Refusal.{Refusal}
-use Rattle.message.specs.declared.form.Checked.{Checked}
 use Rattle.message.specs.declared.request.Head.{Head}
 use Rattle.message.specs.declared.request.Binding.{Binding}
-use Rattle.message.specs.declared.request.BindingRead.{BindingRead}
-use Rattle.message.specs.Form.{field_at, tag_allowed, length_right, field_judged, checked_at, at_kind_field, at_kind, at_id_field, at_status_field, head_size, most_bindings}
+use Rattle.message.specs.declared.request.Bound.{Bound as Read}
+use Rattle.message.specs.Form.{field, field_at, tag_allowed, length_right, field_judged, checked_at, at_kind_field, at_kind, at_id_field, at_status_field, head_size, most_bindings}
 use Rattle.message.specs.Request.{checked_then, status_allowed, status_of, id_of, content_role, content_in, binding_tag_at, not_binding, seventeenth, Bindings, ended, all, prepend, binding_then, no_binding, with_bindings}
 use Rattle.message.specs.Answer.{Bound, most_octets, bound_at}
 use Rattle.message.proofs.FormLaws.{InPlace, told, cond_cases, clash}
 use Rattle.message.proofs.BindingLaws.{content-brief}
-use Rattle.sending.specs.declared.response.ResponseRead.{ResponseRead}
-use Rattle.sending.specs.Writing.{length_form, header_form, ber_octets, shortened, name_ber, ber_tag, content_ber, binding_ber, bindings_ber, response_ber, response_fields, response_front, datagram_fields, datagram_front, datagram_octets, name_written, response_in, response_at, responses_from, response_head, read_response, answers_of, Writable, Ready, Put, not_sent, sent, sent_by, to_datagram}
-use Rattle.sending.proofs.WriteLaws.{field-before, two-before, header-most, name-most, content-most, shortened-most, binding-is}
-use Rattle.datagram.proofs.PlaceLaws.{name_back}
+use Rattle.sending.specs.Writing.{length_form, header_form, ber_octets, shortened, name_ber, ber_tag, content_ber, binding_ber, bindings_ber, response_ber, response_fields, response_front, datagram_fields, datagram_front, datagram_octets, name_written, response_in, response_at, responses_from, response_head, read_response, Writable, Ready, Put, not_sent, sent, sent_by, to_datagram}
+use Rattle.sending.proofs.WriteLaws.{field-before, two-before, header-most, name-most, content-most, binding-is}
 
 -- ## What is put
 
@@ -40,8 +40,8 @@ put_of a r p xs w = record { starts = w.0; filled = w.1 }
 
 -- a header before its contents
 pub put-field : {a b : List ℕ} {q p : ℕ} {xs : List ℕ} → Put a b q p xs → p ≤ length a → (tag r : ℕ) {c : List ℕ}
-    → (r + length (header_form tag (p - q)) ≡ q) × (c ≡ patch b r (header_form tag (p - q))) → Put a c r p (ber_octets tag xs)
-put-field {a} {b} {q} {p} {xs} w h tag r e = put_of a r p (ber_octets tag xs) (field-before a r q p tag (p - q) xs w.filled w.starts h refl e.0 e.1)
+    → Put b c r q (header_form tag (p - q)) → Put a c r p (ber_octets tag xs)
+put-field {a} {b} {q} {p} {xs} w h tag r e = put_of a r p (ber_octets tag xs) (field-before a r q p tag (p - q) xs w.filled w.starts h refl e.starts e.filled)
 
 -- a part before others
 pub put_two : {a b c : List ℕ} {r q p : ℕ} {xs ys : List ℕ} → Put a b q p ys → p ≤ length a → Put b c r q xs → Put a c r p (xs ++ ys)
@@ -69,98 +69,93 @@ field-least tag xs = omega (arith, length-append (header_form tag (length xs)) x
 pub binding-most : (s : List ℕ) (b : Binding) → Writable s b → length (binding_ber (bound_at s b)) ≤ 908
 unfolding binding_ber
 binding-most s b w =
-    let n : ℕ = b.size / 4 in
-    let k : 4 * n ≡ b.size = omega (arith, w.fours) in
     let name : List ℕ = name_ber (part s b.name b.size) in
     let content : List ℕ = content_ber b.tag (part s b.content b.len) in
     let x : List ℕ = ber_octets 0x06 name in
     let y : List ℕ = ber_octets (ber_tag b.tag) content in
-    let m : length name ≤ 5 * n = rw k at (name-most s b.name n (omega (arith, w.named))) in
+    let m : length name ≤ 5 * (length (part s b.name b.size) / 4) = name-most (part s b.name b.size) in
     let l : length content ≤ b.len + 1 = omega (arith, content-most b.tag (part s b.content b.len), part_length s b.content b.len w.filled) in
-    omega (arith, w.short, w.brief, field-most 0x30 (x ++ y), length-append x y, field-most 0x06 name, field-most (ber_tag b.tag) content)
+    omega (arith, w.short, w.brief, part_length s b.name b.size w.named, field-most 0x30 (x ++ y), length-append x y, field-most 0x06 name, field-most (ber_tag b.tag) content)
 
 -- a field, and how long it is at most
-pub field_put : (a : List ℕ) (q p k tag r : ℕ) (xs : List ℕ) {b c : List ℕ} → (q + length xs ≡ p) × (b ≡ patch a q xs) → p ≤ length a → length xs ≤ k
-    → (r + length (header_form tag (p - q)) ≡ q) × (c ≡ patch b r (header_form tag (p - q))) → Put a c r p (ber_octets tag xs) × (p ≤ r + (k + 4))
+pub field_put : (a : List ℕ) (q p k tag r : ℕ) (xs : List ℕ) {b c : List ℕ} → Put a b q p xs → p ≤ length a → length xs ≤ k → Put b c r q (header_form tag (p - q))
+    → Put a c r p (ber_octets tag xs) × (p ≤ r + (k + 4))
 field_put a q p k tag r xs e h m f =
-    let w : Put a _ r p (ber_octets tag xs) = put-field (put_of a q p xs e) h tag r f in
+    let w : Put a _ r p (ber_octets tag xs) = put-field e h tag r f in
     (w, omega (arith, w.starts, field-most tag xs))
 
-pub number-most : (s : List ℕ) (at len : ℕ) → at + len ≤ length s → length (shortened (part s at len)) ≤ len
-number-most s at len h = omega (arith, shortened-most (part s at len), part_length s at len h)
-
-pub content-long : (tag : ℕ) (s : List ℕ) (at len : ℕ) → at + len ≤ length s → length (content_ber tag (part s at len)) ≤ len + 1
-content-long tag s at len h = omega (arith, content-most tag (part s at len), part_length s at len h)
-
-pub version-ber : be_octets 3 0x020101 ≡ ber_octets 0x02 (1 ∷ [])
-unfolding ber_octets length_form be_octets
+pub version-ber : 0x02 ∷ 1 ∷ 1 ∷ [] ≡ ber_octets 0x02 (1 ∷ [])
+unfolding ber_octets length_form
 version-ber = refl
 
-pub four-back : (id : ℕ) {b : List ℕ} → b ≡ patch (replicate 4 0) 0 (be_octets 4 id) → part b 0 4 ≡ be_octets 4 id
-four-back id e = ap (take 4) e ∙ name_back (replicate 4 0) (be_octets 4 id) 4 (length-be_octets 4 id)
+pub four-bytes : (n : ℕ) → to_be_bytes w32 n ≡ be_octets 4 n
+unfolding be_octets
+four-bytes n =
+    let a : n / 16777216 ≡ n / 256 / 256 / 256 = omega arith in
+    let b : n / 65536 ≡ n / 256 / 256 = omega arith in
+    rw (a, b)
 
 -- a binding of two fields
-pub binding-put : (s : List ℕ) (b : Binding) {a a₀ a₁ a₂ : List ℕ} {c n p : ℕ} (r m : ℕ) → m ≡ b.size → Put a a₀ c p (ber_octets (ber_tag b.tag) (content_ber b.tag (part s b.content b.len)))
-    → p ≤ length a → Put a₀ a₁ n c (ber_octets 0x06 (name_ber (part s b.name m))) → (r + length (header_form 0x30 (p - n)) ≡ n) × (a₂ ≡ patch a₁ r (header_form 0x30 (p - n)))
-    → Put a a₂ r p (binding_ber (bound_at s b))
-binding-put s b {a} {a₂ = a₂} {p = p} r m e w h v f = subst (Put a a₂ r p) (binding-is s b m (ber_tag b.tag) e refl) (put-field (put_two w h v) h 0x30 r f)
+pub binding-put : (s : List ℕ) (b : Binding) {a a₀ a₁ a₂ name content : List ℕ} {c n p : ℕ} (r : ℕ) → name ≡ part s b.name b.size → content ≡ part s b.content b.len
+    → Put a a₀ c p (ber_octets (ber_tag b.tag) (content_ber b.tag content)) → p ≤ length a → Put a₀ a₁ n c (ber_octets 0x06 (name_ber name))
+    → Put a₁ a₂ r n (header_form 0x30 (p - n)) → Put a a₂ r p (binding_ber (bound_at s b))
+binding-put s b {a} {a₂ = a₂} {p = p} r e g w h v f = subst (Put a a₂ r p) (binding-is s b e g) (put-field (put_two w h v) h 0x30 r f)
 
 -- ## The bindings, from the first to the last
 
-abbrev pub left : List ℕ → List Binding → (count i : ℕ) → List Bound
-left s bs count i = map (bound_at s) (drop i (take count bs))
+abbrev pub left : List ℕ → List Binding → (i : ℕ) → List Bound
+left s bs i = map (bound_at s) (drop i bs)
 
-module _ (s : List ℕ) (bs : List Binding) (count i : ℕ) (h : i < count) (k : count ≤ length bs) where
-  bers-turn : bindings_ber (left s bs count i) ≡ binding_ber (bound_at s (get_or bs i no_binding)) ++ bindings_ber (left s bs count (i + 1))
+module _ (s : List ℕ) (bs : List Binding) (i : ℕ) (h : i < length bs) where
+  bers-turn : bindings_ber (left s bs i) ≡ binding_ber (bound_at s (get_or bs i no_binding)) ++ bindings_ber (left s bs (i + 1))
   unfolding bindings_ber
-  bers-turn = rw (left-turn no_binding bs count i h k)
+  bers-turn = rw (add-one i, drop-cons bs i no_binding h)
 
-  pub bers-size : length (bindings_ber (left s bs count i)) ≡ length (binding_ber (bound_at s (get_or bs i no_binding))) + length (bindings_ber (left s bs count (i + 1)))
-  bers-size = ap length bers-turn ∙ length-append (binding_ber (bound_at s (get_or bs i no_binding))) (bindings_ber (left s bs count (i + 1)))
+  pub bers-size : length (bindings_ber (left s bs i)) ≡ length (binding_ber (bound_at s (get_or bs i no_binding))) + length (bindings_ber (left s bs (i + 1)))
+  bers-size = ap length bers-turn ∙ length-append (binding_ber (bound_at s (get_or bs i no_binding))) (bindings_ber (left s bs (i + 1)))
 
-  pub bers-put : (room : List ℕ) (to : ℕ) {next : ℕ} → next ≡ to + length (binding_ber (bound_at s (get_or bs i no_binding))) → to + length (bindings_ber (left s bs count i)) ≤ length room
-      → patch (patch room to (binding_ber (bound_at s (get_or bs i no_binding)))) next (bindings_ber (left s bs count (i + 1))) ≡ patch room to (bindings_ber (left s bs count i))
+  pub bers-put : (room : List ℕ) (to : ℕ) {next : ℕ} → next ≡ to + length (binding_ber (bound_at s (get_or bs i no_binding))) → to + length (bindings_ber (left s bs i)) ≤ length room
+      → patch (patch room to (binding_ber (bound_at s (get_or bs i no_binding)))) next (bindings_ber (left s bs (i + 1))) ≡ patch room to (bindings_ber (left s bs i))
   bers-put room to {next} e r =
-      patch-patch room to (binding_ber (bound_at s (get_or bs i no_binding))) (bindings_ber (left s bs count (i + 1))) next (sym e) (omega (arith, bers-size))
+      patch-patch room to (binding_ber (bound_at s (get_or bs i no_binding))) (bindings_ber (left s bs (i + 1))) next (sym e) (omega (arith, bers-size))
       ∙ ap (patch room to) (sym bers-turn)
 
-pub bers-none : (s : List ℕ) (bs : List Binding) (count i : ℕ) → count ≤ i → length (bindings_ber (left s bs count i)) ≡ 0
+pub bers-none : (s : List ℕ) (bs : List Binding) (i : ℕ) → length bs ≤ i → length (bindings_ber (left s bs i)) ≡ 0
 unfolding bindings_ber
-bers-none s bs count i h = rw (left-none bs count i h)
+bers-none s bs i h = rw (drop_of_length-le bs h)
 
-pub bers-done : (s : List ℕ) (bs : List Binding) (count i : ℕ) (room : List ℕ) (to : ℕ) → count ≤ i → room ≡ patch room to (bindings_ber (left s bs count i))
+pub bers-done : (s : List ℕ) (bs : List Binding) (i : ℕ) (room : List ℕ) (to : ℕ) → length bs ≤ i → room ≡ patch room to (bindings_ber (left s bs i))
 unfolding bindings_ber
-bers-done s bs count i room to h = rw (left-none bs count i h) (patch-none room to)
+bers-done s bs i room to h = rw (drop_of_length-le bs h) (patch-none room to)
 
 -- ## What stands before the community, and before the bindings
 
 -- a header whose contents go on after the fields that stand behind it
 pub put_front : {a b : List ℕ} {q p : ℕ} {fields : List ℕ} → Put a b q p fields → p ≤ length a → (tag size r : ℕ) {c : List ℕ}
-    → (r + length (header_form tag (p - q + size)) ≡ q) × (c ≡ patch b r (header_form tag (p - q + size))) → Put a c r p (header_form tag (length fields + size) ++ fields)
-put_front {a} {b} {q} {p} {fields} w h tag size r {c} e =
+    → Put b c r q (header_form tag (p - q + size)) → Put a c r p (header_form tag (length fields + size) ++ fields)
+put_front {a} {b} {q} {p} {fields} w h tag size r {c} v =
     let n : p - q + size ≡ length fields + size = omega (arith, w.starts) in
-    let v : Put b c r q (header_form tag (p - q + size)) = put_of b r q (header_form tag (p - q + size)) e in
     subst (λ (m : ℕ). Put a c r p (header_form tag m ++ fields)) n (put_two w h v)
 
 pub response-front-put : {a a₁ a₂ a₃ a₄ a₅ : List ℕ} {l x t i p : ℕ} (r size id status index : ℕ) → p ≤ length a
-    → (l + length (header_form 0x30 size) ≡ p) × (a₁ ≡ patch a l (header_form 0x30 size))
+    → Put a a₁ l p (header_form 0x30 size)
     → Put a₁ a₂ x l (ber_octets 0x02 (shortened (0 ∷ index ∷ [])))
     → Put a₂ a₃ t x (ber_octets 0x02 (shortened (0 ∷ status ∷ [])))
     → Put a₃ a₄ i t (ber_octets 0x02 (shortened (be_octets 4 id)))
-    → (r + length (header_form 0xA2 (p - i + size)) ≡ i) × (a₅ ≡ patch a₄ r (header_form 0xA2 (p - i + size)))
+    → Put a₄ a₅ r i (header_form 0xA2 (p - i + size))
     → Put a a₅ r p (response_front size id status index)
 unfolding response_front response_fields
 response-front-put {a} {l = l} {p = p} r size id status index h e v u y f =
-    put_front (put_two (put_two (put_two (put_of a l p (header_form 0x30 size) e) h v) h u) h y) h 0xA2 size r f
+    put_front (put_two (put_two (put_two e h v) h u) h y) h 0xA2 size r f
 
 pub datagram-front-put : {a a₁ a₂ a₃ : List ℕ} {c v p : ℕ} (r community rest : ℕ) → p ≤ length a
-    → (c + length (header_form 0x04 community) ≡ p) × (a₁ ≡ patch a c (header_form 0x04 community))
+    → Put a a₁ c p (header_form 0x04 community)
     → Put a₁ a₂ v c (ber_octets 0x02 (1 ∷ []))
-    → (r + length (header_form 0x30 (p - v + (community + rest))) ≡ v) × (a₃ ≡ patch a₂ r (header_form 0x30 (p - v + (community + rest))))
+    → Put a₂ a₃ r v (header_form 0x30 (p - v + (community + rest)))
     → Put a a₃ r p (datagram_front community rest)
 unfolding datagram_front datagram_fields
 datagram-front-put {a} {c = c} {p = p} r community rest h e y f =
-    put_front (put_two (put_of a c p (header_form 0x04 community) e) h y) h 0x30 (community + rest) r f
+    put_front (put_two e h y) h 0x30 (community + rest) r f
 
 -- a field whose contents are fields and more
 field_is : (tag : ℕ) (fields more : List ℕ) {contents : List ℕ} → contents ≡ fields ++ more → ber_octets tag contents ≡ (header_form tag (length fields + length more) ++ fields) ++ more
@@ -269,25 +264,25 @@ long-enough n = omega (arith, length-replicate {A = ℕ} n 0)
 
 -- ## What reading a response tells
 
-abbrev Placed : ℕ → Checked → Type 0
-Placed at (Checked.Refused r) = r.at ≡ at
-Placed at (Checked.Found tag start len) = Unit {0}
+abbrev Placed : ℕ → Result Field Refusal → Type 0
+Placed at (Err r) = r.at ≡ at
+Placed at (Ok f) = Unit {0}
 
 placed : (p : Role) (s : List ℕ) (at end : ℕ) → Placed at (checked_at p s at end)
 unfolding checked_at field_judged
 placed p s at end = go (field_at s at end)
   where
-    go : (f : Field) → Placed at (field_judged p at f)
-    go Cut = refl
-    go (Whole tag start len) = cond_cases (Placed at) (tag_allowed p tag) (λ _. cond_cases (Placed at) (length_right p tag len) (λ _. tt) (λ _. refl)) (λ _. refl)
+    go : (f : Option Field) → Placed at (field_judged p at f)
+    go None = refl
+    go (Some f) = cond_cases (Placed at) (tag_allowed p f.tag) (λ _. cond_cases (Placed at) (length_right p f.tag f.len) (λ _. tt) (λ _. refl)) (λ _. refl)
 
 pub checked-cases : {A : Type 0} (P : A → Type 0) (p : Role) (s : List ℕ) (at end : ℕ) {stop : Refusal → A} {go : ℕ → ℕ → ℕ → A}
-    → ((r : Refusal) → r.at ≡ at → P (stop r)) → ((tag start len : ℕ) → checked_at p s at end ≡ Checked.Found tag start len → P (go tag start len)) → P (checked_then (checked_at p s at end) stop go)
+    → ((r : Refusal) → r.at ≡ at → P (stop r)) → ((tag start len : ℕ) → checked_at p s at end ≡ Ok (field tag start len) → P (go tag start len)) → P (checked_then (checked_at p s at end) stop go)
 checked-cases P p s at end {stop} {go} refuses finds = cases (checked_at p s at end) refl (placed p s at end)
   where
-    cases : (k : Checked) → checked_at p s at end ≡ k → Placed at k → P (checked_then k stop go)
-    cases (Checked.Refused r) e w = refuses r w
-    cases (Checked.Found tag start len) e w = finds tag start len e
+    cases : (k : Result Field Refusal) → checked_at p s at end ≡ k → Placed at k → P (checked_then k stop go)
+    cases (Err r) e w = refuses r w
+    cases (Ok f) e w = finds f.tag f.start f.len e
 
 pub name-length : (tag len : ℕ) → length_right Name tag len ≡ true → (8 ≤ len) × (len % 4 ≡ 0) × (len ≤ 512)
 unfolding length_right
@@ -297,9 +292,9 @@ name-length tag len e =
     (leb-true 8 len l.0, eqb-true (len % 4) 0 o.1, leb-true len 512 l.1)
 
 -- the head: a refusal's place, or the kind
-abbrev HeadTells : Head → Type 0
-HeadTells (Head.Refused r) = r.at ≤ 16
-HeadTells (Head.Found kind id status index) = kind ≡ 2
+abbrev HeadTells : Result Head Refusal → Type 0
+HeadTells (Err r) = r.at ≤ 16
+HeadTells (Ok h) = h.kind ≡ 2
 
 head-tells : (s : List ℕ) → HeadTells (response_head s)
 unfolding response_head id_of status_of status_allowed
@@ -310,16 +305,16 @@ head-tells s =
     (λ itag istart ilen f. checked-cases HeadTells Status s at_status_field (length s) (λ r g. omega arith) (λ stag sstart slen g. refl)))
     (λ t. omega arith))
 
-pub head-refused : (s : List ℕ) {h : Head} {r : Refusal} → h ≡ response_head s → h ≡ Head.Refused r → r.at ≤ 16
+pub head-refused : (s : List ℕ) {d : Result Head Refusal} {r : Refusal} → d ≡ response_head s → d ≡ Err r → r.at ≤ 16
 head-refused s e f = subst HeadTells (sym e ∙ f) (head-tells s)
 
-pub head-kind : (s : List ℕ) {h : Head} {kind id status index : ℕ} → h ≡ response_head s → h ≡ Head.Found kind id status index → kind ≡ 2
+pub head-kind : (s : List ℕ) {d : Result Head Refusal} {h : Head} → d ≡ response_head s → d ≡ Ok h → h.kind ≡ 2
 head-kind s e f = subst HeadTells (sym e ∙ f) (head-tells s)
 
 module _ (s : List ℕ) where
-  abbrev BerBindingTells : ℕ → BindingRead → Type 0
-  BerBindingTells at (BindingRead.Refused r) = r.at ≤ length s + 16
-  BerBindingTells at (BindingRead.Bound b next) = Writable s b × (next ≡ at + (9 + b.size + b.len)) × (next ≤ length s)
+  abbrev BerBindingTells : ℕ → Result Read Refusal → Type 0
+  BerBindingTells at (Err r) = r.at ≤ length s + 16
+  BerBindingTells at (Ok d) = Writable s d.binding × (d.next ≡ at + (9 + d.binding.size + d.binding.len)) × (d.next ≤ length s)
 
   ber-binding-tells : (at : ℕ) → at ≤ length s → BerBindingTells at (response_at s at)
   unfolding response_at response_in content_in content_role length_right
@@ -358,9 +353,9 @@ module _ (s : List ℕ) where
   unfolding seventeenth
   seventeenth-tells at = cond_cases (λ (r : Refusal). r.at ≡ at) (binding_tag_at s at) (λ _. refl) (λ _. go (field_at s at (length s)))
     where
-      go : (f : Field) → (not_binding at f).at ≡ at
-      go Cut = refl
-      go (Whole tag start len) = refl
+      go : (f : Option Field) → (not_binding at f).at ≡ at
+      go None = refl
+      go (Some f) = refl
 
   abbrev AllWritable : List Binding → Type 0
   AllWritable [] = Unit {0}
@@ -371,11 +366,11 @@ module _ (s : List ℕ) where
   BindingsTell left at (ended r) = r.at ≤ length s + 16
   BindingsTell left at (all bs) = (length bs ≤ left) × AllWritable bs
 
-  more-tells : (left at : ℕ) (k : BindingRead) (go : ℕ → Bindings) → BerBindingTells at k → ((next : ℕ) → BindingsTell left next (go next)) → BindingsTell (suc left) at (binding_then k go)
-  more-tells left at (BindingRead.Refused r) go w h = w
-  more-tells left at (BindingRead.Bound b next) go w h = prepended (go next) (h next)
+  more-tells : (left at : ℕ) (k : Result Read Refusal) (go : ℕ → Bindings) → BerBindingTells at k → ((next : ℕ) → BindingsTell left next (go next)) → BindingsTell (suc left) at (binding_then k go)
+  more-tells left at (Err r) go w h = w
+  more-tells left at (Ok d) go w h = prepended (go d.next) (h d.next)
     where
-      prepended : (x : Bindings) → BindingsTell left next x → BindingsTell (suc left) at (prepend b x)
+      prepended : (x : Bindings) → BindingsTell left d.next x → BindingsTell (suc left) at (prepend d.binding x)
       prepended (ended r) v = v
       prepended (all bs) v = (omega (arith, v.0), (w.0, v.1))
 
@@ -392,37 +387,20 @@ module _ (s : List ℕ) where
   all-at (b ∷ bs) w (suc i) h = all-at bs w.1 i (omega arith)
 
   -- what the code holds of the bindings
-  module _ {d : ResponseRead} (q : d ≡ answers_of (responses_from s most_bindings head_size)) where
-    pub answers-refused : d.whole ≡ false → (responses_from s most_bindings head_size ≡ ended d.refusal) × (d.refusal.at ≤ length s + 16)
-    answers-refused h = go (responses_from s most_bindings head_size) refl (bindings-tell 16 16) q
-      where
-        go : (x : Bindings) → responses_from s most_bindings head_size ≡ x → BindingsTell 16 16 x → d ≡ answers_of x → (responses_from s most_bindings head_size ≡ ended d.refusal) × (d.refusal.at ≤ length s + 16)
-        go (ended r) e w f =
-            let z : d.refusal ≡ r = ap (λ (u : ResponseRead). u.refusal) f in
-            (e ∙ ap ended (sym z), rw z w)
-        go (all bs) e w f =
-            let z : d.whole ≡ true = ap (λ (u : ResponseRead). u.whole) f in
-            clash (cc)
+  pub answers-refused : {r : Refusal} → ended r ≡ responses_from s most_bindings head_size → r.at ≤ length s + 16
+  answers-refused e = subst (BindingsTell 16 16) (sym e) (bindings-tell 16 16)
 
-    pub answers-whole : d.whole ≡ true → (responses_from s most_bindings head_size ≡ all (take d.count d.bindings)) × Ready s d.bindings d.count
-    answers-whole h = go (responses_from s most_bindings head_size) refl (bindings-tell 16 16) q
-      where
-        go : (x : Bindings) → responses_from s most_bindings head_size ≡ x → BindingsTell 16 16 x → d ≡ answers_of x → (responses_from s most_bindings head_size ≡ all (take d.count d.bindings)) × Ready s d.bindings d.count
-        go (ended r) e w f =
-            let z : d.whole ≡ false = ap (λ (u : ResponseRead). u.whole) f in
-            clash (cc)
-        go (all bs) e w f =
-            let n : d.count ≡ length bs = ap (λ (u : ResponseRead). u.count) f in
-            let g : d.bindings ≡ bs ++ replicate (16 - length bs) no_binding = ap (λ (u : ResponseRead). u.bindings) f in
-            let b : take d.count d.bindings ≡ bs = rw (g, n) (take_at bs (replicate (16 - length bs) no_binding) (length bs) refl) in (
-              e ∙ ap all (sym b),
-              record {
-                few = omega (arith, w.0);
-                each = λ j k. rw (g, get_or-append bs (replicate (16 - length bs) no_binding) no_binding j (omega arith)) (all-at bs w.1 j (omega arith));
-              },
-            )
+  pub answers-whole : {bs : List Binding} → all bs ≡ responses_from s most_bindings head_size → Ready s bs
+  answers-whole {bs} e =
+      let w : BindingsTell 16 16 (all bs) = subst (BindingsTell 16 16) (sym e) (bindings-tell 16 16) in
+      record { few = w.0; each = all-at bs w.1 }
 
 -- ## The call
+
+-- what `?` hands on
+pub handed : {T E : Type 0} (r : Result T E) (e : E) → IsErrAnd r (λ x. x ≡ e) → r ≡ Err e
+handed (Ok n) e w = absurd w
+handed (Err x) e w = ap Err w
 
 module _ (room community s : List ℕ) where
   pub call-short : length room < most_octets → not_sent 1 0 room ≡ to_datagram room community s
@@ -433,7 +411,7 @@ module _ (room community s : List ℕ) where
   unfolding to_datagram
   call_long h k = rw (le-ltb (length room) most_octets h, lt-ltb most_octets (length s) k)
 
-  pub bindings-refused : (id status index : ℕ) {r : Refusal} → responses_from s most_bindings head_size ≡ ended r → not_sent r.number r.at room ≡ sent_by room community s (with_bindings 2 id status index (responses_from s most_bindings head_size))
+  pub bindings-refused : (id status index : ℕ) {r : Refusal} → responses_from s most_bindings head_size ≡ ended r → not_sent (number_of r.reason) r.at room ≡ sent_by room community s (with_bindings 2 id status index (responses_from s most_bindings head_size))
   unfolding sent_by
   bindings-refused id status index e = rw e
 
@@ -442,14 +420,14 @@ module _ (room community s : List ℕ) where
   unfolding sent_by
   bindings-sent id status index e = rw e
 
-  module _ (h : most_octets ≤ length room) (k : length s ≤ most_octets) {d : Head} (e : d ≡ response_head s) where
-    pub call-refused : {r : Refusal} → d ≡ Head.Refused r → not_sent r.number r.at room ≡ to_datagram room community s
+  module _ (h : most_octets ≤ length room) (k : length s ≤ most_octets) {d : Result Head Refusal} (e : d ≡ response_head s) where
+    pub call-refused : {r : Refusal} → d ≡ Err r → not_sent (number_of r.reason) r.at room ≡ to_datagram room community s
     unfolding to_datagram read_response sent_by
     call-refused f = rw (le-ltb (length room) most_octets h, le-ltb most_octets (length s) k, ← e, f)
 
-    pub call-read : {kind id status index : ℕ} → d ≡ Head.Found kind id status index
-        → sent_by room community s (with_bindings 2 id status index (responses_from s most_bindings head_size)) ≡ to_datagram room community s
+    pub call-read : {h : Head} → d ≡ Ok h
+        → sent_by room community s (with_bindings 2 h.id h.status h.index (responses_from s most_bindings head_size)) ≡ to_datagram room community s
     unfolding to_datagram read_response
-    call-read {kind} {id} {status} {index} f =
-        let z : kind ≡ 2 = head-kind s e f in
+    call-read f =
+        let z = head-kind s e f in
         rw (le-ltb (length room) most_octets h, le-ltb most_octets (length s) k, ← e, f, z)

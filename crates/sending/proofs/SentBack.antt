@@ -14,22 +14,25 @@ use Rattle.octets.specs.Parts.{part}
 use Rattle.octets.proofs.NumberLaws.{Octets, be_at-same, be_at-lt, be_octets-be_at}
 use Rattle.octets.proofs.OctetLaws.{octets-part}
 use Rattle.octets.proofs.PartLaws.{part-one, part_length, part-at}
-use Rattle.message.specs.declared.form.Field.TheVariants.{Cut, Whole}
+use Rattle.std.specs.Prelude.{Some, None, Result, Ok, Err}
+use Rattle.message.specs.declared.refusals.Reason.TheVariants.{TagNotAllowed, LengthWrong}
+use Rattle.message.specs.declared.form.Refusal.{Refusal}
+use Rattle.message.specs.declared.form.Field.{Field}
 use Rattle.message.specs.declared.form.Role.{Role}
 use Rattle.message.specs.declared.form.Role.TheVariants.{Kind, Id, Status, Bind, Name, Answered}
-use Rattle.message.specs.declared.form.Checked.{Checked}
 use Rattle.message.specs.declared.request.Head.{Head}
-use Rattle.message.specs.declared.request.BindingRead.{BindingRead}
-use Rattle.message.specs.Form.{field_at, tag_allowed, length_right, field_judged, checked_at, refusal, at_kind_field, at_kind, at_id_field, at_id, at_status_field, at_status, at_index, head_size, most_bindings}
+use Rattle.message.specs.declared.request.Bound.{Bound as Read}
+use Rattle.message.specs.Form.{field, field_at, tag_allowed, length_right, field_judged, checked_at, refusal, at_kind_field, at_kind, at_id_field, at_id, at_status_field, at_status, at_index, head_size, most_bindings}
 use Rattle.message.specs.Request.{status_allowed, status_of, id_of, content_role, content_in, Bindings, ended, all, prepend, binding_then, with_bindings, head_then, Reading, refused, message}
 use Rattle.message.specs.Answer.{Bound, field_octets, head_octets, binding_octets, bindings_octets, message_octets, most_octets, bound_at}
-use Rattle.message.proofs.FormLaws.{InPlace, told, cond_cases, clash}
+use Rattle.message.proofs.FormLaws.{InPlace, told, ok-same, cond_cases, clash}
 use Rattle.message.proofs.AnswerLaws.{length-field}
 use Rattle.message.proofs.BindingLaws.{name-length}
 use Rattle.datagram.specs.Reading.{handed}
 use Rattle.sending.specs.Writing.{name_written, response_in, response_at, responses_from, response_head, read_response, datagram_octets, sent_by, to_datagram}
 use Rattle.sending.specs.Theorems.{Carried, AllCarried, SentReadsBack}
 use Rattle.datagram.proofs.PlaceLaws.{call-read}
+use Rattle.sending.proofs.WriteLaws.{written-own}
 use Rattle.sending.proofs.SendLaws.{checked-cases}
 use Rattle.sending.proofs.ReadBack.{reads-back}
 
@@ -37,21 +40,20 @@ drop-split : (s : List ℕ) (p n : ℕ) → drop p s ≡ part s p n ++ drop (p +
 drop-split s p n = sym (take-append-drop n (drop p s)) ∙ ap (λ (u : List ℕ). part s p n ++ u) (drop-drop n p s)
 
 -- a field that was found is what stands there
-found-is : (p : Role) (s : List ℕ) (at end tag start len : ℕ) → checked_at p s at end ≡ Checked.Found tag start len → (tag ≡ get_or s at 0) × (len ≡ be_at s (at + 1) 2)
+found-is : (p : Role) (s : List ℕ) (at end tag start len : ℕ) → checked_at p s at end ≡ Ok (field tag start len) → (tag ≡ get_or s at 0) × (len ≡ be_at s (at + 1) 2)
 unfolding checked_at field_judged field_at
 found-is p s at end tag start len = go (leb (at + 3) end) (leb (at + 3 + be_at s (at + 1) 2) end)
   where
     tests : (c d : Bool)
-        → cond c (cond d (Checked.Found (get_or s at 0) (at + 3) (be_at s (at + 1) 2)) (Checked.Refused (refusal 6 at))) (Checked.Refused (refusal 5 at)) ≡ Checked.Found tag start len
+        → cond c (cond d (Ok (field (get_or s at 0) (at + 3) (be_at s (at + 1) 2))) (Err (refusal LengthWrong at))) (Err (refusal TagNotAllowed at)) ≡ Ok (field tag start len)
         → (tag ≡ get_or s at 0) × (len ≡ be_at s (at + 1) 2)
     tests true true e =
-        let t : tag ≡ get_or s at 0 = cc in
-        let l : len ≡ be_at s (at + 1) 2 = cc in
-        (t, l)
+        let q = ok-same e in
+        (sym (ap (λ (f : Field). f.tag) q), sym (ap (λ (f : Field). f.len) q))
     tests true false e = clash (cc)
     tests false d e = clash (cc)
 
-    go : (a b : Bool) → field_judged p at (cond a (cond b (Whole (get_or s at 0) (at + 3) (be_at s (at + 1) 2)) Cut) Cut) ≡ Checked.Found tag start len → (tag ≡ get_or s at 0) × (len ≡ be_at s (at + 1) 2)
+    go : (a b : Bool) → field_judged p at (cond a (cond b (Some (field (get_or s at 0) (at + 3) (be_at s (at + 1) 2))) None) None) ≡ Ok (field tag start len) → (tag ≡ get_or s at 0) × (len ≡ be_at s (at + 1) 2)
     go true true e = tests (tag_allowed p (get_or s at 0)) (length_right p (get_or s at 0) (be_at s (at + 1) 2)) e
     go true false e = clash (cc)
     go false b e = clash (cc)
@@ -79,15 +81,8 @@ module _ (tag : ℕ) where
   name-tag e = eqb-true tag 0x11 e
 
 -- a name in the octets of its own, and where it stands
-pub written-own : (s : List ℕ) (p n : ℕ) → 8 ≤ n → name_written (part s p n) 0 ≡ name_written s p
-unfolding name_written
-written-own s p n h =
-    let a : be_at (part s p n) 0 4 ≡ be_at s p 4 = be_at-same (part s p n) s 0 p 4 (λ i j. ap (λ (m : ℕ). get_or (part s p n) m 0) (omega arith) ∙ part-at s p n i (omega arith)) in
-    let b : be_at (part s p n) (0 + 4) 4 ≡ be_at s (p + 4) 4 = be_at-same (part s p n) s (0 + 4) (p + 4) 4 (λ i j. part-at s p n (0 + 4 + i) (omega arith) ∙ ap (λ (m : ℕ). get_or s m 0) (omega arith)) in
-    rw (a, b)
-
 module _ (s : List ℕ) (o : Octets s) where
-  field-own : (p : Role) (at end tag start len : ℕ) → checked_at p s at end ≡ Checked.Found tag start len → end ≤ length s → drop at s ≡ field_octets tag (part s start len) ++ drop (start + len) s
+  field-own : (p : Role) (at end tag start len : ℕ) → checked_at p s at end ≡ Ok (field tag start len) → end ≤ length s → drop at s ≡ field_octets tag (part s start len) ++ drop (start + len) s
   field-own p at end tag start len e h =
       let w : InPlace p at end tag start len = told s refl e in
       let (t, l) = found-is p s at end tag start len e in
@@ -102,9 +97,9 @@ module _ (s : List ℕ) (o : Octets s) where
       ∙ ap (λ (u : List ℕ). tag ∷ (u ++ (part s start len ++ drop (start + len) s))) header
       ∙ ap (λ (u : List ℕ). tag ∷ u) (sym (append_assoc (be_octets 2 (length (part s start len))) (part s start len) (drop (start + len) s)))
 
-  abbrev BindingReadOwn : ℕ → BindingRead → Type 0
-  BindingReadOwn at (BindingRead.Refused r) = Unit {0}
-  BindingReadOwn at (BindingRead.Bound b next) = (drop at s ≡ binding_octets (bound_at s b) ++ drop next s) × Carried (bound_at s b)
+  abbrev BindingReadOwn : ℕ → Result Read Refusal → Type 0
+  BindingReadOwn at (Err r) = Unit {0}
+  BindingReadOwn at (Ok d) = (drop at s ≡ binding_octets (bound_at s d.binding) ++ drop d.next s) × Carried (bound_at s d.binding)
 
   -- the two fields of a binding, in its own
   binding-own : (at start len name size content clen tag : ℕ) → drop at s ≡ field_octets 0x10 (part s start len) ++ drop (start + len) s → drop start s ≡ field_octets 0x11 (part s name size) ++ drop (name + size) s
@@ -168,14 +163,14 @@ module _ (s : List ℕ) (o : Octets s) where
   BindingsOwn left at (ended r) = Unit {0}
   BindingsOwn left at (all bs) = (drop at s ≡ bindings_octets (map (bound_at s) bs)) × AllCarried (map (bound_at s) bs) × (length (map (bound_at s) bs) ≤ left)
 
-  more-own : (left at : ℕ) (k : BindingRead) (go : ℕ → Bindings) → BindingReadOwn at k → ((next : ℕ) → BindingsOwn left next (go next)) → BindingsOwn (suc left) at (binding_then k go)
+  more-own : (left at : ℕ) (k : Result Read Refusal) (go : ℕ → Bindings) → BindingReadOwn at k → ((next : ℕ) → BindingsOwn left next (go next)) → BindingsOwn (suc left) at (binding_then k go)
   unfolding bindings_octets
-  more-own left at (BindingRead.Refused r) go w h = tt
-  more-own left at (BindingRead.Bound b next) go w h = prepended (go next) (h next)
+  more-own left at (Err r) go w h = tt
+  more-own left at (Ok d) go w h = prepended (go d.next) (h d.next)
     where
-      prepended : (x : Bindings) → BindingsOwn left next x → BindingsOwn (suc left) at (prepend b x)
+      prepended : (x : Bindings) → BindingsOwn left d.next x → BindingsOwn (suc left) at (prepend d.binding x)
       prepended (ended r) v = tt
-      prepended (all bs) v = (w.0 ∙ ap (λ (u : List ℕ). binding_octets (bound_at s b) ++ u) v.0, (w.1, v.1), omega (arith, v.2))
+      prepended (all bs) v = (w.0 ∙ ap (λ (u : List ℕ). binding_octets (bound_at s d.binding) ++ u) v.0, (w.1, v.1), omega (arith, v.2))
 
   bindings-own : (left at : ℕ) → BindingsOwn left at (responses_from s left at)
   unfolding responses_from bindings_octets
@@ -185,15 +180,15 @@ module _ (s : List ℕ) (o : Octets s) where
       (λ t. more-own left at (response_at s at) (responses_from s left) (binding-read-own at) (bindings-own left))
 
   -- a field whose tag, place and length are known
-  field_fixed : (p : Role) (at tag start len t a n : ℕ) → checked_at p s at (length s) ≡ Checked.Found tag start len → tag ≡ t → start ≡ a → len ≡ n → drop at s ≡ field_octets t (part s a n) ++ drop (a + n) s
+  field_fixed : (p : Role) (at tag start len t a n : ℕ) → checked_at p s at (length s) ≡ Ok (field tag start len) → tag ≡ t → start ≡ a → len ≡ n → drop at s ≡ field_octets t (part s a n) ++ drop (a + n) s
   field_fixed p at tag start len t a n e x y z = rw (x, y, z) at (field-own p at (length s) tag start len e (omega arith))
 
   part-two : (p : ℕ) → suc p < length s → part s p 2 ≡ get_or s p 0 ∷ get_or s (suc p) 0 ∷ []
   part-two p h = ap (take 2) (drop-cons s p 0 (omega arith) ∙ ap (λ (u : List ℕ). get_or s p 0 ∷ u) (drop-cons s (suc p) 0 h))
 
-  abbrev HeadOwn : Head → Type 0
-  HeadOwn (Head.Refused r) = Unit {0}
-  HeadOwn (Head.Found kind id status index) = (s ≡ head_octets 2 id status index ++ drop head_size s) × (id < 2 ^ 32)
+  abbrev HeadOwn : Result Head Refusal → Type 0
+  HeadOwn (Err r) = Unit {0}
+  HeadOwn (Ok h) = (s ≡ head_octets 2 h.id h.status h.index ++ drop head_size s) × (h.id < 2 ^ 32)
 
   three : (a b c r₁ r₂ r₃ : List ℕ) → s ≡ a ++ r₁ → r₁ ≡ b ++ r₂ → r₂ ≡ c ++ r₃ → s ≡ (a ++ (b ++ c)) ++ r₃
   three a b c r₁ r₂ r₃ x y z =
@@ -234,13 +229,13 @@ module _ (s : List ℕ) (o : Octets s) where
   unfolding read_response message_octets
   reading-own = go (response_head s) head-own
     where
-      go : (h : Head) → HeadOwn h → ReadingOwn (head_then h (λ kind id status index. with_bindings kind id status index (responses_from s most_bindings head_size)))
-      go (Head.Refused r) w = tt
-      go (Head.Found kind id status index) w = ends (responses_from s most_bindings head_size) (bindings-own most_bindings head_size)
+      go : (x : Result Head Refusal) → HeadOwn x → ReadingOwn (head_then x (λ kind id status index. with_bindings kind id status index (responses_from s most_bindings head_size)))
+      go (Err r) w = tt
+      go (Ok h) w = ends (responses_from s most_bindings head_size) (bindings-own most_bindings head_size)
         where
-          ends : (x : Bindings) → BindingsOwn 16 16 x → ReadingOwn (with_bindings kind id status index x)
+          ends : (x : Bindings) → BindingsOwn 16 16 x → ReadingOwn (with_bindings h.kind h.id h.status h.index x)
           ends (ended r) v = tt
-          ends (all bs) v = (sym (w.0 ∙ ap (λ (u : List ℕ). head_octets 2 id status index ++ u) v.0), w.1, v.1, v.2)
+          ends (all bs) v = (sym (w.0 ∙ ap (λ (u : List ℕ). head_octets 2 h.id h.status h.index ++ u) v.0), w.1, v.1, v.2)
 
 pub sent-reads-back : SentReadsBack
 unfolding to_datagram sent_by
@@ -252,8 +247,8 @@ sent-reads-back room fresh community s kind id status index bs oct ls lr lf e m 
       at,
       rw (le-ltb (length room) most_octets lr, le-ltb most_octets (length s) ls, e, le-leb (length d) most_octets m),
       sym (call-read true fresh d lf m r)
-          ∙ ap (λ (l : List Bound). handed fresh at (length community) (message_octets 2 id status index l)) q
-          ∙ ap (λ (l : List ℕ). handed fresh at (length community) l) own
+          ∙ ap (λ (l : List Bound). handed fresh (record { start = at; len = length community }) (message_octets 2 id status index l)) q
+          ∙ ap (λ (l : List ℕ). handed fresh (record { start = at; len = length community }) l) own
           ∙ rw (le-leb (length s) most_octets ls),
       c,
     )

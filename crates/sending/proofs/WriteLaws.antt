@@ -1,7 +1,7 @@
 -- Laws of writing BER from the back. Assumes nothing.
 use Prim.Native.Nat.{ℕ, zero, suc, ◌+◌, ◌*◌, ◌-◌, ◌/◌, ◌%◌, ◌^◌, ◌≤◌, ◌<◌}
 use mathlib.Core.Path.{◌≡◌, refl, sym, ap, subst, ◌∙◌}
-use mathlib.Core.Bool.{Bool, true, false, cond, ◌&&◌, ◌||◌}
+use mathlib.Core.Bool.{Bool, true, false, cond, ◌&&◌, ◌||◌, false≢true}
 use mathlib.Core.List.{List, [], ◌∷◌, ◌++◌, append-nil}
 use native.Mathlib.Omega.{arith}
 use native.Mathlib.Nat.{pow-suc}
@@ -20,43 +20,28 @@ use Rattle.message.specs.declared.request.Binding.{Binding}
 use Rattle.message.specs.Form.{content_length}
 use Rattle.message.specs.Answer.{bound_at}
 use Rattle.ber.specs.Ber.{fewest}
-use Rattle.sending.specs.Writing.{length_form, header_form, going_on, base128, shortened, numbers_octets, first_one, name_ber, ber_octets, name_written, content_ber, ber_tag, binding_ber}
+use Rattle.sending.specs.Writing.{length_form, header_form, going_on, base128, shortened, numbers_octets, first_one, name_ber, ber_octets, name_written, content_ber, ber_tag, binding_ber, Put}
 
 -- ## Headers
 
-module _ (tag len : ℕ) (t : tag < 256) where
-  pub header-one : len < 128 → be_octets 2 (tag * 0x100 + len) ≡ header_form tag len
-  unfolding length_form be_octets
-  header-one h =
-      let a : (tag * 0x100 + len) / 256 % 256 ≡ tag = omega arith in
-      let b : (tag * 0x100 + len) % 256 ≡ len = omega arith in
-      rw (lt-ltb len 128 h, a, b)
+module _ (tag len : ℕ) where
+  pub header-one : len < 128 → tag ∷ len ∷ [] ≡ header_form tag len
+  unfolding length_form
+  header-one h = rw (lt-ltb len 128 h)
 
-  pub header-two : 128 ≤ len → len < 256 → be_octets 3 (tag * 0x10000 + 0x8100 + len) ≡ header_form tag len
-  unfolding length_form be_octets
-  header-two g h =
-      let a : (tag * 0x10000 + 0x8100 + len) / 256 / 256 % 256 ≡ tag = omega arith in
-      let b : (tag * 0x10000 + 0x8100 + len) / 256 % 256 ≡ 0x81 = omega arith in
-      let c : (tag * 0x10000 + 0x8100 + len) % 256 ≡ len = omega arith in
-      rw (le-ltb len 128 g, lt-ltb len 256 h, a, b, c)
+  pub header-two : 128 ≤ len → len < 256 → tag ∷ 0x81 ∷ len ∷ [] ≡ header_form tag len
+  unfolding length_form
+  header-two g h = rw (le-ltb len 128 g, lt-ltb len 256 h)
 
-  pub header-three : 256 ≤ len → len < 65536 → be_octets 4 (tag * 0x1000000 + 0x820000 + len) ≡ header_form tag len
+  pub header-three : 256 ≤ len → len < 65536 → tag ∷ 0x82 ∷ len / 256 ∷ len % 256 ∷ [] ≡ header_form tag len
   unfolding length_form be_octets
   header-three g h =
-      let a : (tag * 0x1000000 + 0x820000 + len) / 256 / 256 / 256 % 256 ≡ tag = omega arith in
-      let b : (tag * 0x1000000 + 0x820000 + len) / 256 / 256 % 256 ≡ 0x82 = omega arith in
-      let c : (tag * 0x1000000 + 0x820000 + len) / 256 % 256 ≡ len / 256 % 256 = omega arith in
-      let d : (tag * 0x1000000 + 0x820000 + len) % 256 ≡ len % 256 = omega arith in
-      rw (le-ltb len 128 (omega arith), le-ltb len 256 g, a, b, c, d)
+      let a : len / 256 % 256 ≡ len / 256 = omega arith in
+      rw (le-ltb len 128 (omega arith), le-ltb len 256 g, a)
 
-  pub length-one : len < 128 → length (header_form tag len) ≡ 2
-  length-one h = ap length (sym (header-one h)) ∙ length-be_octets 2 (tag * 0x100 + len)
-
-  pub length_two : 128 ≤ len → len < 256 → length (header_form tag len) ≡ 3
-  length_two g h = ap length (sym (header-two g h)) ∙ length-be_octets 3 (tag * 0x10000 + 0x8100 + len)
-
-  pub length_three : 256 ≤ len → len < 65536 → length (header_form tag len) ≡ 4
-  length_three g h = ap length (sym (header-three g h)) ∙ length-be_octets 4 (tag * 0x1000000 + 0x820000 + len)
+-- a header that was put
+pub header-put : (out : List ℕ) (p k tag len : ℕ) {xs b : List ℕ} → xs ≡ header_form tag len → length xs ≡ k → k ≤ p → b ≡ patch out (p - k) xs → Put out b (p - k) p (header_form tag len)
+header-put out p k tag len e n h q = record { starts = omega (arith, ap length e); filled = q ∙ ap (patch out (p - k)) e }
 
 -- ## Numbers to the base 128
 
@@ -129,57 +114,40 @@ pub going-again : {a b : List ℕ} {p n q m : ℕ} → Going a b p n q m → 0 <
 going-again (zero, w) h l = absurd (omega (arith, w.small))
 going-again (suc k, w) h l = (k, before-turn w h l)
 
-pub going_done : {a b : List ℕ} {p n q m : ℕ} → Going a b p n q m → m ≡ 0 → (q + length (going_on 4 n) ≡ p) × (b ≡ patch a q (going_on 4 n))
+pub going_done : {a b : List ℕ} {p n q m : ℕ} → Going a b p n q m → m ≡ 0 → Put a b q p (going_on 4 n)
 going_done {a} {b} {p} {n} {q} {m} (k, w) e =
     let z : going_on k m ≡ [] = ap (going_on k) e ∙ going-none k in
-    let s : q - length (going_on k m) ≡ q = omega (arith, ap length z) in (
-      omega (arith, w.start, s),
-      patch-none b q ∙ ap (patch b q) (sym z) ∙ ap (λ (j : ℕ). patch b j (going_on k m)) (sym s) ∙ w.left ∙ ap (λ (j : ℕ). patch a j (going_on 4 n)) s,
-    )
+    let s : q - length (going_on k m) ≡ q = omega (arith, ap length z) in
+    record {
+      starts = omega (arith, w.start, s);
+      filled = patch-none b q ∙ ap (patch b q) (sym z) ∙ ap (λ (j : ℕ). patch b j (going_on k m)) (sym s) ∙ w.left ∙ ap (λ (j : ℕ). patch a j (going_on 4 n)) s;
+    }
 
-pub base128-put : (a : List ℕ) (p n r : ℕ) {b : List ℕ} → 5 ≤ p → p ≤ length a → (r + length (going_on 4 (n / 128)) ≡ p - 1)
-    → b ≡ patch (set a (p - 1) (n % 128)) r (going_on 4 (n / 128)) → (r + length (base128 n) ≡ p) × (b ≡ patch a r (base128 n))
+pub base128-put : (a : List ℕ) (p n r : ℕ) {b : List ℕ} → 5 ≤ p → p ≤ length a → Put (set a (p - 1) (n % 128)) b r (p - 1) (going_on 4 (n / 128)) → Put a b r p (base128 n)
 unfolding base128
-base128-put a p n r h l e q = (
-  omega (arith, length-append (going_on 4 (n / 128)) (n % 128 ∷ [])),
-  q ∙ ap (λ (j : ℕ). patch (set a j (n % 128)) r (going_on 4 (n / 128))) (sym e) ∙ patch-snoc a r (going_on 4 (n / 128)) (n % 128) (omega arith),
-)
+base128-put a p n r h l w =
+    record {
+      starts = omega (arith, w.starts, length-append (going_on 4 (n / 128)) (n % 128 ∷ []));
+      filled = w.filled ∙ ap (λ (j : ℕ). patch (set a j (n % 128)) r (going_on 4 (n / 128))) (sym w.starts) ∙ patch-snoc a r (going_on 4 (n / 128)) (n % 128) (omega (arith, w.starts));
+    }
 
 -- ## Numbers in the fewest octets
 
-short-here : (xs : List ℕ) → fewest xs ≡ true → xs ≡ shortened xs
+pub short-here : (xs : List ℕ) → fewest xs ≡ true → xs ≡ shortened xs
 unfolding shortened
 short-here [] e = refl
 short-here (x ∷ []) e = refl
 short-here (x ∷ y ∷ ys) e = rw e
 
-short-next : (x : ℕ) (xs : List ℕ) → 1 ≤ length xs → fewest (x ∷ xs) ≡ false → shortened xs ≡ shortened (x ∷ xs)
+pub short-next : (x : ℕ) (xs : List ℕ) → fewest (x ∷ xs) ≡ false → shortened xs ≡ shortened (x ∷ xs)
+unfolding shortened fewest
+short-next x [] e = absurd (false≢true (sym e))
+short-next x (y ∷ ys) e = rw e
+
+pub short-none : (xs : List ℕ) → length xs ≡ 0 → xs ≡ shortened xs
 unfolding shortened
-short-next x [] h e = absurd (omega arith)
-short-next x (y ∷ ys) h e = rw e
-
-short-last : (xs : List ℕ) → length xs ≤ 1 → xs ≡ shortened xs
-unfolding shortened
-short-last [] h = refl
-short-last (x ∷ []) h = refl
-short-last (x ∷ y ∷ ys) h = absurd (omega arith)
-
--- k octets in front of the len octets at an offset are passed, and only repeat the sign
-module _ (s : List ℕ) (at len k : ℕ) (fits : at + len ≤ length s) (inv : shortened (part s (at + k) (len - k)) ≡ shortened (part s at len)) where
-  pub sign-found : k ≤ len → fewest (part s (at + k) (len - k)) ≡ true → part s (at + k) (len - k) ≡ shortened (part s at len)
-  sign-found h e = short-here (part s (at + k) (len - k)) e ∙ inv
-
-  pub sign-more : k + 1 < len → fewest (part s (at + k) (len - k)) ≡ false → shortened (part s (at + (k + 1)) (len - (k + 1))) ≡ shortened (part s at len)
-  sign-more h e =
-      let n : len - k ≡ suc (len - (k + 1)) = omega arith in
-      let d : at + (k + 1) ≡ suc (at + k) = omega arith in
-      let c : part s (at + k) (len - k) ≡ get_or s (at + k) 0 ∷ part s (at + (k + 1)) (len - (k + 1)) = rw (n, d, drop-cons s (at + k) 0 (omega arith)) in
-      short-next (get_or s (at + k) 0) (part s (at + (k + 1)) (len - (k + 1))) (omega (arith, part_length s (at + (k + 1)) (len - (k + 1)) (omega arith))) (ap fewest (sym c) ∙ e)
-      ∙ ap shortened (sym c)
-      ∙ inv
-
-  pub sign-done : k ≤ len → len ≤ k + 1 → part s (at + k) (len - k) ≡ shortened (part s at len)
-  sign-done h l = short-last (part s (at + k) (len - k)) (omega (arith, part_length s (at + k) (len - k) (omega arith))) ∙ inv
+short-none [] e = refl
+short-none (x ∷ xs) e = absurd (omega arith)
 
 -- what is put before something makes with it one part
 pub before-put : (a : List ℕ) (r q : ℕ) (xs ws : List ℕ) → r + length xs ≡ q → q + length ws ≤ length a → patch (patch a q ws) r xs ≡ patch a r (xs ++ ws)
@@ -214,9 +182,8 @@ named_none ids a p n e h r =
     let z : drop n ids ≡ [] = drop_of_length-le ids {i = n} (omega arith) in
     record { long = refl; within = omega arith; two = h; room = r; placed = rw z (omega arith); done = rw z (patch-none a p) }
 
-pub named_more : (ids a : List ℕ) (p q i r : ℕ) {b b' : List ℕ} (v : ℕ) → Named ids a b p q (suc i) → 2 ≤ i → p ≤ length a → v ≡ get_or ids i 0 → r + length (base128 v) ≡ q
-    → b' ≡ patch b r (base128 v) → length b' ≡ length b → Named ids a b' p r i
-named_more ids a p q i r {b} {b'} v w two l e f g k =
+pub named_more : (ids a : List ℕ) (p q i r : ℕ) {b b' : List ℕ} (v : ℕ) → Named ids a b p q (suc i) → 2 ≤ i → p ≤ length a → v ≡ get_or ids i 0 → Put b b' r q (base128 v) → length b' ≡ length b → Named ids a b' p r i
+named_more ids a p q i r {b} {b'} v w two l e f k =
     let d : numbers_octets (drop i ids) ≡ base128 v ++ numbers_octets (drop (i + 1) ids) = numbers-drop ids i (omega (arith, w.within)) ∙ rw (← e) in
     let s : length (numbers_octets (drop i ids)) ≡ length (base128 v) + length (numbers_octets (drop (i + 1) ids)) = ap length d ∙ length-append (base128 v) (numbers_octets (drop (i + 1) ids)) in
     let o : drop (suc i) ids ≡ drop (i + 1) ids = rw (add-one i) in
@@ -226,23 +193,24 @@ named_more ids a p q i r {b} {b'} v w two l e f g k =
       long = k ∙ w.long;
       within = omega (arith, w.within);
       two = two;
-      room = omega (arith, w.room);
-      placed = omega (arith, w.placed);
+      room = omega (arith, w.room, f.starts);
+      placed = omega (arith, w.placed, f.starts);
       done =
-          g
+          f.filled
           ∙ ap (λ (u : List ℕ). patch u r (base128 v)) (w.done ∙ ap (λ (u : List ℕ). patch a q (numbers_octets u)) o)
-          ∙ before-put a r q (base128 v) (numbers_octets (drop (i + 1) ids)) f (omega (arith, w.placed))
+          ∙ before-put a r q (base128 v) (numbers_octets (drop (i + 1) ids)) f.starts (omega (arith, w.placed))
           ∙ ap (patch a r) (sym d);
     }
 
-pub named-done : (ids a : List ℕ) (p q r : ℕ) {b b' : List ℕ} (v : ℕ) → Named ids a b p q 2 → p ≤ length a → v ≡ 40 * get_or ids 0 0 + get_or ids 1 0 → r + length (base128 v) ≡ q
-    → b' ≡ patch b r (base128 v) → (r + length (numbers_octets (first_one ids)) ≡ p) × (b' ≡ patch a r (numbers_octets (first_one ids)))
-named-done ids a p q r {b} {b'} v w l e f g =
+pub named-done : (ids a : List ℕ) (p q r : ℕ) {b b' : List ℕ} (v : ℕ) → Named ids a b p q 2 → p ≤ length a → v ≡ 40 * get_or ids 0 0 + get_or ids 1 0 → Put b b' r q (base128 v)
+    → Put a b' r p (numbers_octets (first_one ids))
+named-done ids a p q r {b} {b'} v w l e f =
     let d : numbers_octets (first_one ids) ≡ base128 v ++ numbers_octets (drop 2 ids) = first ids w.within e in
-    let s : length (numbers_octets (first_one ids)) ≡ length (base128 v) + length (numbers_octets (drop 2 ids)) = ap length d ∙ length-append (base128 v) (numbers_octets (drop 2 ids)) in (
-      omega (arith, w.placed),
-      g ∙ ap (λ (u : List ℕ). patch u r (base128 v)) w.done ∙ before-put a r q (base128 v) (numbers_octets (drop 2 ids)) f (omega (arith, w.placed)) ∙ ap (patch a r) (sym d),
-    )
+    let s : length (numbers_octets (first_one ids)) ≡ length (base128 v) + length (numbers_octets (drop 2 ids)) = ap length d ∙ length-append (base128 v) (numbers_octets (drop 2 ids)) in
+    record {
+      starts = omega (arith, w.placed, f.starts);
+      filled = f.filled ∙ ap (λ (u : List ℕ). patch u r (base128 v)) w.done ∙ before-put a r q (base128 v) (numbers_octets (drop 2 ids)) f.starts (omega (arith, w.placed)) ∙ ap (patch a r) (sym d);
+    }
   where
     first : (ids : List ℕ) → 2 ≤ length ids → v ≡ 40 * get_or ids 0 0 + get_or ids 1 0 → numbers_octets (first_one ids) ≡ base128 v ++ numbers_octets (drop 2 ids)
     first [] h e = absurd (omega arith)
@@ -250,34 +218,30 @@ named-done ids a p q r {b} {b'} v w l e f g =
     first (x ∷ y ∷ ys) h e = numbers-cons (40 * x + y) ys ∙ ap (λ (u : ℕ). base128 u ++ numbers_octets ys) (sym e)
 
 -- a sub-id in the octets of a name
-module _ (s : List ℕ) (at n i : ℕ) (fits : at + 4 * n ≤ length s) (h : i < n) where
-  pub sub_at : be_at s (at + 4 * i) 4 ≡ get_or (subids (part s at (4 * n))) i 0
-  sub_at =
-      let xs : List ℕ = part s at (4 * n) in
-      let l : length xs ≡ 4 * n = part_length s at (4 * n) fits in
-      let d : drop i (subids xs) ≡ be_at xs (4 * i) 4 ∷ subids (drop (4 * i + 4) xs) = sym (subids-drop i xs) ∙ subids-step xs (4 * i) (omega arith) in
-      let g : get_or (subids xs) i 0 ≡ be_at xs (4 * i) 4 = sym (ap (λ (k : ℕ). get_or (subids xs) k 0) (plus_none i)) ∙ sym (get_or-drop i (subids xs) 0 0) ∙ ap (λ (u : List ℕ). get_or u 0 0) d in
-      be_at-same s xs (at + 4 * i) (4 * i) 4 (λ j k. sym (part-at s at (4 * n) (4 * i + j) (omega arith) ∙ ap (λ (m : ℕ). get_or s m 0) (omega arith))) ∙ sym g
-    where
-      plus_none : (k : ℕ) → k + 0 ≡ k
-      plus_none k = omega arith
+pub sub_at : (xs : List ℕ) (i : ℕ) → 4 * i + 4 ≤ length xs → be_at xs (4 * i) 4 ≡ get_or (subids xs) i 0
+sub_at xs i h =
+    let d : drop i (subids xs) ≡ be_at xs (4 * i) 4 ∷ subids (drop (4 * i + 4) xs) = sym (subids-drop i xs) ∙ subids-step xs (4 * i) h in
+    let g : get_or (subids xs) i 0 ≡ be_at xs (4 * i) 4 = sym (ap (λ (k : ℕ). get_or (subids xs) k 0) (plus_none i)) ∙ sym (get_or-drop i (subids xs) 0 0) ∙ ap (λ (u : List ℕ). get_or u 0 0) d in
+    sym g
+  where
+    plus_none : (k : ℕ) → k + 0 ≡ k
+    plus_none k = omega arith
 
-pub sub-count : (s : List ℕ) (at n : ℕ) → at + 4 * n ≤ length s → n ≡ length (subids (part s at (4 * n)))
-sub-count s at n fits = omega (arith, subids-count (part s at (4 * n)), part_length s at (4 * n) fits)
+pub sub-count : (xs : List ℕ) → length xs / 4 ≡ length (subids xs)
+sub-count xs = sym (subids-count xs)
 
-pub named_again : (ids a : List ℕ) (p q i r : ℕ) {b b' : List ℕ} (v : ℕ) → Named ids a b p q i → 2 < i → p ≤ length a → v ≡ get_or ids (i - 1) 0 → r + length (base128 v) ≡ q
-    → b' ≡ patch b r (base128 v) → length b' ≡ length b → Named ids a b' p r (i - 1)
-named_again ids a p q i r {b} v w h l e f g k =
+pub named_again : (ids a : List ℕ) (p q i r : ℕ) {b b' : List ℕ} (v : ℕ) → Named ids a b p q i → 2 < i → p ≤ length a → v ≡ get_or ids (i - 1) 0 → Put b b' r q (base128 v) → length b' ≡ length b → Named ids a b' p r (i - 1)
+named_again ids a p q i r {b} v w h l e f k =
     let z : i ≡ suc (i - 1) = omega arith in
     let w' : Named ids a b p q (suc (i - 1)) = subst (λ (j : ℕ). Named ids a b p q j) z w in
-    named_more ids a p q (i - 1) r v w' (omega arith) l e f g k
+    named_more ids a p q (i - 1) r v w' (omega arith) l e f k
 
-pub named-last : (ids a : List ℕ) (p q i r : ℕ) {b b' : List ℕ} (v : ℕ) → Named ids a b p q i → i ≤ 2 → p ≤ length a → v ≡ 40 * get_or ids 0 0 + get_or ids 1 0 → r + length (base128 v) ≡ q
-    → b' ≡ patch b r (base128 v) → (r + length (numbers_octets (first_one ids)) ≡ p) × (b' ≡ patch a r (numbers_octets (first_one ids)))
-named-last ids a p q i r {b} v w h l e f g =
+pub named-last : (ids a : List ℕ) (p q i r : ℕ) {b b' : List ℕ} (v : ℕ) → Named ids a b p q i → i ≤ 2 → p ≤ length a → v ≡ 40 * get_or ids 0 0 + get_or ids 1 0 → Put b b' r q (base128 v)
+    → Put a b' r p (numbers_octets (first_one ids))
+named-last ids a p q i r {b} v w h l e f =
     let z : i ≡ 2 = omega (arith, w.two) in
     let w' : Named ids a b p q 2 = subst (λ (j : ℕ). Named ids a b p q j) z w in
-    named-done ids a p q r v w' l e f g
+    named-done ids a p q r v w' l e f
 
 pub written-first : (s : List ℕ) (at : ℕ) → name_written s at ≡ true → be_at s at 4 ≤ 2
 unfolding name_written
@@ -288,34 +252,28 @@ written-first s at = go (eqb (be_at s at 4) 2) (ltb (be_at s at 4) 2) refl refl
     go false true e f h = omega (arith, ltb-true (be_at s at 4) 2 f)
     go false false e f h = let z : ◌≡◌ {A = ℕ} 0 1 = cc in absurd (omega arith)
 
-pub sign-none : (s : List ℕ) (at len : ℕ) → shortened (part s (at + 0) (len - 0)) ≡ shortened (part s at len)
-sign-none s at len = ap (λ (j : ℕ). shortened (part s j (len - 0))) (plus at) ∙ ap (λ (j : ℕ). shortened (part s at j)) (less len)
-  where
-    plus : (k : ℕ) → k + 0 ≡ k
-    plus k = omega arith
-
-    less : (k : ℕ) → k - 0 ≡ k
-    less k = omega arith
-
-pub subs-first : (s : List ℕ) (at n : ℕ) {x y : ℕ} → at + 4 * n ≤ length s → 2 ≤ n → x ≡ be_at s at 4 → y ≡ be_at s (at + 4) 4
-    → x * 40 + y ≡ 40 * get_or (subids (part s at (4 * n))) 0 0 + get_or (subids (part s at (4 * n))) 1 0
-subs-first s at n {x} {y} fits h e f =
-    let a : x ≡ get_or (subids (part s at (4 * n))) 0 0 = e ∙ ap (λ (j : ℕ). be_at s j 4) (plus at) ∙ sub_at s at n 0 fits (omega arith) in
-    let b : y ≡ get_or (subids (part s at (4 * n))) 1 0 = f ∙ sub_at s at n 1 fits (omega arith) in
+pub subs-first : (xs : List ℕ) {x y : ℕ} → 8 ≤ length xs → x ≡ be_at xs 0 4 → y ≡ be_at xs 4 4 → x * 40 + y ≡ 40 * get_or (subids xs) 0 0 + get_or (subids xs) 1 0
+subs-first xs {x} {y} h e f =
+    let a : x ≡ get_or (subids xs) 0 0 = e ∙ sub_at xs 0 (omega arith) in
+    let b : y ≡ get_or (subids xs) 1 0 = f ∙ sub_at xs 1 (omega arith) in
     omega arith
-  where
-    plus : (k : ℕ) → k ≡ k + 4 * 0
-    plus k = omega arith
 
 pub put-length : (a : List ℕ) (r p : ℕ) (xs : List ℕ) {b : List ℕ} → r + length xs ≡ p → p ≤ length a → b ≡ patch a r xs → length b ≡ length a
 put-length a r p xs e h q = ap length q ∙ length-patch a r xs (omega arith)
 
-pub number_put : (s out : List ℕ) (at len p k n : ℕ) {b : List ℕ} → at + len ≤ length s → len ≤ p → k ≤ len → part s (at + k) (len - k) ≡ shortened (part s at len) → n ≡ len - k
-    → b ≡ patch out (p - (len - k)) (take n (drop (at + k) s))
-    → (p - (len - k) + length (shortened (part s at len)) ≡ p) × (b ≡ patch out (p - (len - k)) (shortened (part s at len)))
-number_put s out at len p k n fits h l e m q =
-    let z : length (shortened (part s at len)) ≡ len - k = ap length (sym e) ∙ part_length s (at + k) (len - k) (omega arith) in
-    (omega arith, q ∙ ap (λ (j : ℕ). patch out (p - (len - k)) (take j (drop (at + k) s))) m ∙ ap (patch out (p - (len - k))) e)
+pub shortened-most : (xs : List ℕ) → length (shortened xs) ≤ length xs
+unfolding shortened
+shortened-most [] = omega arith
+shortened-most (x ∷ []) = omega arith
+shortened-most (x ∷ y ∷ ys) = go (fewest (x ∷ y ∷ ys)) (shortened-most (y ∷ ys))
+  where
+    go : (t : Bool) → length (shortened (y ∷ ys)) ≤ length (y ∷ ys) → length (cond t (x ∷ y ∷ ys) (shortened (y ∷ ys))) ≤ length (x ∷ y ∷ ys)
+    go true h = omega arith
+    go false h = omega arith
+
+pub number_put : (xs out : List ℕ) (p : ℕ) {ys b : List ℕ} → length xs ≤ p → ys ≡ shortened xs → b ≡ patch out (p - length ys) ys
+    → Put out b (p - length ys) p (shortened xs)
+number_put xs out p {ys} h e q = record { starts = omega (arith, ap length e, shortened-most xs); filled = q ∙ ap (patch out (p - length ys)) e }
 
 -- ## Contents
 
@@ -348,23 +306,11 @@ pub five-signed : (xs : List ℕ) → length xs ≡ 4 → patch (replicate 5 0) 
 five-signed xs e =
     patch-mid (0 ∷ []) (replicate 4 0) [] xs 1 refl (sym e) ∙ append-nil ((0 ∷ []) ++ xs)
 
-pub part-whole : (xs : List ℕ) (n : ℕ) → length xs ≡ n → part xs 0 n ≡ xs
-part-whole xs n e = take_all n xs (omega arith)
-
-pub five-copied : (s : List ℕ) (at n : ℕ) → at + 4 ≤ length s → n ≡ 4 → patch (replicate 5 0) 1 (take n (drop at s)) ≡ 0 ∷ part s at 4
-five-copied s at n h e = ap (λ (m : ℕ). patch (replicate 5 0) 1 (take m (drop at s))) e ∙ five-signed (part s at 4) (part_length s at 4 h)
-
-pub signed_part : (s : List ℕ) (at len : ℕ) {l : List ℕ} → at + len ≤ length s → len ≡ 4 → l ≡ 0 ∷ part s at 4 → part l 0 5 ≡ 0 ∷ part s at len
-signed_part s at len {l} h e q =
-    let w : l ≡ 0 ∷ part s at len = q ∙ ap (λ (n : ℕ). 0 ∷ part s at n) (sym e) in
-    part-whole l 5 (ap length w ∙ omega (arith, part_length s at len h)) ∙ w
-
-pub content-copied : (tag : ℕ) (s out : List ℕ) (at len p n : ℕ) {b : List ℕ} → at + len ≤ length s → len ≤ p → n ≡ len → (tag ≡ 0x21 → ⊥) → (eqb tag 0x23 || eqb tag 0x24) ≡ false
-    → b ≡ patch out (p - len) (take n (drop at s))
-    → (p - len + length (content_ber tag (part s at len)) ≡ p) × (b ≡ patch out (p - len) (content_ber tag (part s at len)))
-content-copied tag s out at len p n h l e a f q =
-    let o : part s at len ≡ content_ber tag (part s at len) = other-ber tag (part s at len) a f in
-    (omega (arith, ap length o, part_length s at len h), q ∙ ap (λ (m : ℕ). patch out (p - len) (take m (drop at s))) e ∙ ap (patch out (p - len)) o)
+pub content-copied : (tag : ℕ) (xs out : List ℕ) (p : ℕ) {b : List ℕ} → length xs ≤ p → (tag ≡ 0x21 → ⊥) → (eqb tag 0x23 || eqb tag 0x24) ≡ false → b ≡ patch out (p - length xs) xs
+    → Put out b (p - length xs) p (content_ber tag xs)
+content-copied tag xs out p l a f q =
+    let o : xs ≡ content_ber tag xs = other-ber tag xs a f in
+    record { starts = omega (arith, ap length o); filled = q ∙ ap (patch out (p - length xs)) o }
 
 -- ## A binding
 
@@ -376,16 +322,6 @@ header-most tag len = go (ltb len 128) (ltb len 256)
     go true b = omega arith
     go false true = omega arith
     go false false = omega arith
-
-pub shortened-most : (xs : List ℕ) → length (shortened xs) ≤ length xs
-unfolding shortened
-shortened-most [] = omega arith
-shortened-most (x ∷ []) = omega arith
-shortened-most (x ∷ y ∷ ys) = go (fewest (x ∷ y ∷ ys)) (shortened-most (y ∷ ys))
-  where
-    go : (t : Bool) → length (shortened (y ∷ ys)) ≤ length (y ∷ ys) → length (cond t (x ∷ y ∷ ys) (shortened (y ∷ ys))) ≤ length (x ∷ y ∷ ys)
-    go true h = omega arith
-    go false h = omega arith
 
 pub content-most : (tag : ℕ) (xs : List ℕ) → length (content_ber tag xs) ≤ length xs + 1
 unfolding content_ber
@@ -406,11 +342,17 @@ first-most [] = omega arith
 first-most (x ∷ []) = omega arith
 first-most (x ∷ y ∷ ys) = omega arith
 
-pub name-most : (s : List ℕ) (at n : ℕ) → at + 4 * n ≤ length s → length (name_ber (part s at (4 * n))) ≤ 5 * n
+pub name-most : (xs : List ℕ) → length (name_ber xs) ≤ 5 * (length xs / 4)
 unfolding name_ber
-name-most s at n h =
-    let ids : List ℕ = subids (part s at (4 * n)) in
-    omega (arith, numbers-most (first_one ids), first-most ids, sub-count s at n h)
+name-most xs = omega (arith, numbers-most (first_one (subids xs)), first-most (subids xs), subids-count xs)
+
+-- a name that is a part
+pub written-own : (s : List ℕ) (p n : ℕ) → 8 ≤ n → name_written (part s p n) 0 ≡ name_written s p
+unfolding name_written
+written-own s p n h =
+    let a : be_at (part s p n) 0 4 ≡ be_at s p 4 = be_at-same (part s p n) s 0 p 4 (λ i j. ap (λ (m : ℕ). get_or (part s p n) m 0) (omega arith) ∙ part-at s p n i (omega arith)) in
+    let b : be_at (part s p n) (0 + 4) 4 ≡ be_at s (p + 4) 4 = be_at-same (part s p n) s (0 + 4) (p + 4) 4 (λ i j. part-at s p n (0 + 4 + i) (omega arith) ∙ ap (λ (m : ℕ). get_or s m 0) (omega arith)) in
+    rw (a, b)
 
 -- a field, from its contents and its header
 pub field-before : (a : List ℕ) (r q p tag len : ℕ) (xs : List ℕ) {b c : List ℕ} → b ≡ patch a q xs → q + length xs ≡ p → p ≤ length a → len ≡ p - q → r + length (header_form tag len) ≡ q
@@ -430,7 +372,11 @@ pub two-before : (a : List ℕ) (r q p : ℕ) (xs ys : List ℕ) {b c : List ℕ
 two-before a r q p xs ys e f l g h =
     (omega (arith, length-append xs ys), h ∙ ap (λ (v : List ℕ). patch v r xs) e ∙ before-put a r q xs ys g (omega arith))
 
-pub binding-is : (s : List ℕ) (b : Binding) (m t : ℕ) → m ≡ b.size → t ≡ ber_tag b.tag
-    → ber_octets 0x30 (ber_octets 0x06 (name_ber (part s b.name m)) ++ ber_octets t (content_ber b.tag (part s b.content b.len))) ≡ binding_ber (bound_at s b)
+pub binding-is : (s : List ℕ) (b : Binding) {name content : List ℕ} → name ≡ part s b.name b.size → content ≡ part s b.content b.len
+    → ber_octets 0x30 (ber_octets 0x06 (name_ber name) ++ ber_octets (ber_tag b.tag) (content_ber b.tag content)) ≡ binding_ber (bound_at s b)
 unfolding binding_ber
-binding-is s b m t e f = rw (e, f)
+binding-is s b e f = rw (e, f)
+
+-- what `&s[n..n + k]` lends
+pub lent : (s : List ℕ) (n k : ℕ) → take (n + k - n) (drop n s) ≡ part s n k
+lent s n k = let e : n + k - n ≡ k = omega arith in rw e

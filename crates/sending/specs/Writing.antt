@@ -1,20 +1,20 @@
 -- The writing of a response as a datagram (E2: "write an answer back, community echoed", "writing uses the shortest", "Writing takes only responses: 4 to 8 as before,
 -- 7 only for another kind"). Assumes nothing.
-use Rattle.std.specs.Prelude.{ℕ, zero, suc, ◌+◌, ◌*◌, ◌-◌, ◌/◌, ◌%◌, ◌≤◌, ◌<◌, ◌≡◌, Bool, true, false, cond, ◌&&◌, ◌||◌, List, [], ◌∷◌, ◌++◌, map, length, get_or, replicate, leb, ltb, eqb}
+use Rattle.std.specs.Prelude.{ℕ, zero, suc, ◌+◌, ◌*◌, ◌-◌, ◌/◌, ◌%◌, ◌≤◌, ◌<◌, ◌≡◌, Bool, true, false, cond, ◌&&◌, ◌||◌, List, [], ◌∷◌, ◌++◌, map, length, get_or, take, leb, ltb, eqb, Result, Ok, Err}
 use Rattle.octets.specs.Numbers.{be_at, be_octets}
 use Rattle.octets.specs.Parts.{patch}
 use Rattle.names.specs.SubIds.{subids}
+use Rattle.message.specs.declared.refusals.Reason.TheVariants.{HeadWrong, NoCounterpart}
+use Rattle.message.specs.Refusals.{number_of}
 use Rattle.message.specs.declared.form.Refusal.{Refusal}
 use Rattle.message.specs.declared.form.Role.TheVariants.{Kind, Bind, Name}
 use Rattle.message.specs.declared.request.Head.{Head}
 use Rattle.message.specs.declared.request.Binding.{Binding}
-use Rattle.message.specs.declared.request.BindingRead.{BindingRead}
+use Rattle.message.specs.declared.request.Bound.{Bound as Read}
 use Rattle.message.specs.Form.{checked_at, content_length, refusal, at_kind_field, at_kind, head_size, most_bindings}
 use Rattle.message.specs.Request.{checked_then, id_of, content_in, seventeenth, Bindings, ended, all, binding_then, Reading, refused, message, with_bindings, head_then, no_binding}
 use Rattle.message.specs.Answer.{Bound, most_octets, bound_at}
 use Rattle.ber.specs.Ber.{fewest}
-use Rattle.sending.specs.declared.response.ResponseRead.{ResponseRead}
-use Rattle.sending.specs.declared.DatagramWritten.{DatagramWritten}
 
 -- ## Fields, in the shortest form
 
@@ -121,34 +121,30 @@ unfoldable pub name_written : List ℕ → ℕ → Bool
 name_written s at = eqb (be_at s at 4) 2 || (ltb (be_at s at 4) 2 && ltb (be_at s (at + 4) 4) 40)
 
 -- "19 .. name with no counterpart" is judged at the name, before the content
-unfoldable pub response_in : List ℕ → (at end : ℕ) → BindingRead
+unfoldable pub response_in : List ℕ → (at end : ℕ) → Result Read Refusal
 response_in s at end =
-    checked_then (checked_at Name s at end) BindingRead.Refused
-    (λ tag start len. cond (name_written s start) (content_in 2 s end start len) (BindingRead.Refused (refusal 19 0)))
+    checked_then (checked_at Name s at end) Err
+    (λ tag start len. cond (name_written s start) (content_in 2 s end start len) (Err (refusal NoCounterpart 0)))
 
-unfoldable pub response_at : List ℕ → ℕ → BindingRead
-response_at s at = checked_then (checked_at Bind s at (length s)) BindingRead.Refused (λ tag start len. response_in s start (start + len))
+unfoldable pub response_at : List ℕ → ℕ → Result Read Refusal
+response_at s at = checked_then (checked_at Bind s at (length s)) Err (λ tag start len. response_in s start (start + len))
 
 unfoldable pub responses_from : List ℕ → (left at : ℕ) → Bindings
 responses_from s zero at = cond (leb (length s) at) (all []) (ended (seventeenth s at))
 responses_from s (suc left) at = cond (leb (length s) at) (all []) (binding_then (response_at s at) (λ next. responses_from s left next))
 
 -- "7 only for another kind": the status and the index of a response are any
-unfoldable pub response_head : List ℕ → Head
+unfoldable pub response_head : List ℕ → Result Head Refusal
 response_head s =
-    checked_then (checked_at Kind s at_kind_field (length s)) Head.Refused (λ tag start len. cond (eqb (get_or s at_kind 0) 2) (id_of s 2) (Head.Refused (refusal 7 at_kind_field)))
+    checked_then (checked_at Kind s at_kind_field (length s)) Err (λ tag start len. cond (eqb (get_or s at_kind 0) 2) (id_of s 2) (Err (refusal HeadWrong at_kind_field)))
 
 unfoldable pub read_response : List ℕ → Reading
 read_response s = head_then (response_head s) (λ kind id status index. with_bindings kind id status index (responses_from s most_bindings head_size))
 
--- what stands in place of a refusal where there is none
-abbrev pub no_refusal : Refusal
-no_refusal = refusal 0 0
-
--- bindings as the code holds them: empty ones after them up to 16
-abbrev pub answers_of : Bindings → ResponseRead
-answers_of (ended r) = record { whole = false; refusal = r; count = 0; bindings = replicate 16 no_binding }
-answers_of (all bs) = record { whole = true; refusal = no_refusal; count = length bs; bindings = bs ++ replicate (16 - length bs) no_binding }
+-- bindings as the code holds them: the first n of the array
+abbrev pub answered : Result ℕ Refusal → List Binding → Bindings
+answered (Ok n) bs = all (take n bs)
+answered (Err r) bs = ended r
 
 -- what the code that writes a binding of a response asks of it
 pub record Writable (s : List ℕ) (b : Binding) : Type 0 where
@@ -161,9 +157,9 @@ pub record Writable (s : List ℕ) (b : Binding) : Type 0 where
   pub brief : b.len ≤ 255
   pub right : content_length b.tag b.len ≡ true
 
-pub record Ready (s : List ℕ) (bs : List Binding) (count : ℕ) : Type 0 where
-  pub few : count ≤ 16
-  pub each : (i : ℕ) → i < count → Writable s (get_or bs i no_binding)
+pub record Ready (s : List ℕ) (bs : List Binding) : Type 0 where
+  pub few : length bs ≤ 16
+  pub each : (i : ℕ) → i < length bs → Writable s (get_or bs i no_binding)
 
 -- xs stands before place p and starts at r, in b, which was a
 pub record Put (a b : List ℕ) (r p : ℕ) (xs : List ℕ) : Type 0 where
@@ -188,7 +184,7 @@ sent room octets =
     cond (leb (length octets) most_octets) (record { number = 0; count = length octets; offset = 0; room = patch room 0 octets }) (not_sent 20 0 room)
 
 unfoldable pub sent_by : (room community s : List ℕ) → Reading → Sent
-sent_by room community s (refused r) = not_sent r.number r.at room
+sent_by room community s (refused r) = not_sent (number_of r.reason) r.at room
 sent_by room community s (message kind id status index bs) = sent room (datagram_octets community id status index (map (bound_at s) bs))
 
 -- "1 first, then 20 on the input, then left to right"
@@ -198,5 +194,11 @@ to_datagram room community s =
     (cond (ltb most_octets (length s)) (not_sent 20 0 room) (sent_by room community s (read_response s)))
 
 -- what a call that returned says
-abbrev pub sent_as : DatagramWritten → List ℕ → Sent
-sent_as r room = record { number = r.number; count = r.count; offset = r.offset; room = room }
+abbrev pub sent_as : Result ℕ Refusal → List ℕ → Sent
+sent_as (Ok n) room = record { number = 0; count = n; offset = 0; room = room }
+sent_as (Err r) room = not_sent (number_of r.reason) r.at room
+
+-- its count and its offset are numbers of 32 bits
+abbrev pub Brief : Result ℕ Refusal → Type 0
+Brief (Ok n) = n ≤ most_octets
+Brief (Err r) = r.at ≤ most_octets + 16

@@ -4,33 +4,35 @@
 pub mod response;
 pub mod writing;
 
-ghost use Rattle.std.specs.Prelude.{◌≡◌, ◌+◌, ◌≤◌, ◌<◌, [], ◌∷◌, ◌++◌, map, length, take};
+ghost use Rattle.std.specs.Prelude.{◌≡◌, ◌+◌, ◌≤◌, ◌<◌, [], ◌∷◌, ◌++◌, map, length};
 ghost use Rattle.octets.specs.Numbers.{be_octets};
-ghost use Rattle.octets.specs.Parts.{part, patch};
+ghost use Rattle.octets.specs.Parts.{patch};
 ghost use Rattle.message.specs.Answer.{most_octets, bound_at};
 ghost use Rattle.message.specs.Request.{with_bindings};
-ghost use Rattle.sending.specs.Writing.{shortened, ber_octets, binding_ber, bindings_ber, response_front, datagram_front, datagram_octets, responses_from, Writable, Ready, Put, sent, sent_by, sent_as, to_datagram};
+ghost use Rattle.sending.specs.Writing.{shortened, ber_octets, binding_ber, bindings_ber, response_front, datagram_front, datagram_octets, responses_from, Writable, Ready, Put, sent, sent_by, sent_as, Brief, to_datagram};
 
-use ber::TOO_LONG;
 use ber::tags::{BER_INTEGER, BER_SEQUENCE, BER_STRING, RESPONSE_PDU};
-use message::refusals::ROOM_SHORT;
-use message::request::{Binding, Head};
+use message::form::{MOST_BINDINGS, Refusal};
+use message::refusals::Reason;
+use message::request::{Binding, Head, NO_BINDING};
 use message::sizes::MOST_OCTETS;
-use octets::numbers::put;
 use octets::parts::copy_in;
 use response::{read_answers, response_head};
 use writing::{bound_before, header_before, number_before};
 
-// The number of a call, the datagram's length in the room, and where in the message a refusal arose.
-#[derive(Drop)]
-pub struct DatagramWritten {
-    pub number: u32,
-    pub count: u32,
-    pub offset: u32,
-}
+// The refusals of a call: of its room, and of a message or a datagram that is too long.
+const SHORT: Refusal = Refusal {
+    reason: Reason::RoomShort,
+    at: 0,
+};
 
-// The version of SNMPv2c as a field of BER.
-const VERSION_FIELD: u64 = 0x020101;
+const OVER: Refusal = Refusal {
+    reason: Reason::TooLong,
+    at: 0,
+};
+
+// The version of SNMPv2c, as a field.
+const VERSION_FIELD: [u8; 3] = [BER_INTEGER, 1, 1];
 
 // The most octets of a binding: three headers of 4 octets, 128 sub-ids of 5, a content of 255 and a sign octet.
 const MOST_BOUND: usize = 908;
@@ -42,18 +44,18 @@ const RESPONSE_FRONT: usize = 28;
 const DATAGRAM_FRONT: usize = 11;
 
 // How many octets a binding has as one of BER.
-fn bound_size(s: &[u8], b: Binding) -> usize
-    requires { Writable s.now b }
-    ensures { result ≡ length (binding_ber (bound_at s.now b)) }
+fn bound_size(s: &[u8], b: &Binding) -> usize
+    requires { Writable s.now b.now }
+    ensures { result ≡ length (binding_ber (bound_at s.now b.now)) }
 {
     let mut out = [0u8; MOST_BOUND];
     MOST_BOUND - bound_before(&mut out, MOST_BOUND, s, b)
 }
 
 // Puts a binding as one of BER, and gives the place after it.
-fn put_bound(room: &mut [u8], to: usize, s: &[u8], b: Binding) -> usize
-    requires { Writable s.now b × (to + length (binding_ber (bound_at s.now b)) ≤ length room.old) }
-    ensures { (result ≡ to + length (binding_ber (bound_at s.now b))) × (room.new ≡ patch room.old to (binding_ber (bound_at s.now b))) }
+fn put_bound(room: &mut [u8], to: usize, s: &[u8], b: &Binding) -> usize
+    requires { Writable s.now b.now × (to + length (binding_ber (bound_at s.now b.now)) ≤ length room.old) }
+    ensures { (result ≡ to + length (binding_ber (bound_at s.now b.now))) × (room.new ≡ patch room.old to (binding_ber (bound_at s.now b.now))) }
 {
     let mut out = [0u8; MOST_BOUND];
     let from = bound_before(&mut out, MOST_BOUND, s, b);
@@ -62,38 +64,34 @@ fn put_bound(room: &mut [u8], to: usize, s: &[u8], b: Binding) -> usize
 }
 
 // How many octets the bindings have.
-fn bindings_size(s: &[u8], bindings: [Binding; 16], count: usize) -> usize
-    requires { Ready s.now bindings count }
-    ensures { result ≡ length (bindings_ber (map (bound_at s.now) (take count bindings))) × (result < 16384) }
+fn bindings_size(s: &[u8], bindings: &[Binding]) -> usize
+    requires { Ready s.now bindings.now }
+    ensures { result ≡ length (bindings_ber (map (bound_at s.now) bindings.now)) × (result < 16384) }
 {
     let mut total: usize = 0;
-    let mut i = 0;
-    while i < count {
-        total += bound_size(s, bindings[i]);
-        i += 1;
+    for b in bindings {
+        total += bound_size(s, b);
     }
     total
 }
 
 // Puts the bindings from a place on.
-fn put_bindings(room: &mut [u8], from: usize, s: &[u8], bindings: [Binding; 16], count: usize)
-    requires { Ready s.now bindings count × (from + length (bindings_ber (map (bound_at s.now) (take count bindings))) ≤ length room.old) }
-    ensures { room.new ≡ patch room.old from (bindings_ber (map (bound_at s.now) (take count bindings))) }
+fn put_bindings(room: &mut [u8], from: usize, s: &[u8], bindings: &[Binding])
+    requires { Ready s.now bindings.now × (from + length (bindings_ber (map (bound_at s.now) bindings.now)) ≤ length room.old) }
+    ensures { room.new ≡ patch room.old from (bindings_ber (map (bound_at s.now) bindings.now)) }
 {
     let mut to = from;
-    let mut i = 0;
-    while i < count {
-        to = put_bound(room, to, s, bindings[i]);
-        i += 1;
+    for b in bindings {
+        to = put_bound(room, to, s, b);
     }
 }
 
 // Puts the field of a number before place p, and gives the place where it starts.
-fn number_field(out: &mut [u8], p: usize, s: &[u8], at: usize, len: usize) -> usize
-    requires { (at + len ≤ length s.now) × (len + 4 ≤ p) × (p ≤ length out.old) × (len < 65536) }
-    ensures { Put out.old out.new result p (ber_octets 0x02 (shortened (part s.now at len))) × (p ≤ result + (len + 4)) }
+fn number_field(out: &mut [u8], p: usize, xs: &[u8]) -> usize
+    requires { (length xs.now + 4 ≤ p) × (p ≤ length out.old) × (length xs.now < 65536) }
+    ensures { Put out.old out.new result p (ber_octets 0x02 (shortened xs.now)) × (p ≤ result + (length xs.now + 4)) }
 {
-    let q = number_before(out, p, s, at, len);
+    let q = number_before(out, p, xs);
     header_before(out, q, BER_INTEGER, p - q)
 }
 
@@ -102,8 +100,7 @@ fn octet_field(out: &mut [u8], p: usize, n: u8) -> usize
     requires { (6 ≤ p) × (p ≤ length out.old) }
     ensures { Put out.old out.new result p (ber_octets 0x02 (shortened (0 ∷ n ∷ []))) × (p ≤ result + 6) }
 {
-    let two = [0, n];
-    number_field(out, p, &two, 0, 2)
+    number_field(out, p, &[0, n])
 }
 
 // The field of a request id.
@@ -111,9 +108,7 @@ fn id_field(out: &mut [u8], p: usize, id: u32) -> usize
     requires { (8 ≤ p) × (p ≤ length out.old) }
     ensures { Put out.old out.new result p (ber_octets 0x02 (shortened (be_octets 4 id))) × (p ≤ result + 8) }
 {
-    let mut four = [0u8; 4];
-    put(&mut four, 0, 4, id as u64);
-    number_field(out, p, &four, 0, 4)
+    number_field(out, p, &id.to_be_bytes())
 }
 
 // The field of version 1.
@@ -121,19 +116,19 @@ fn version_field(out: &mut [u8], p: usize) -> usize
     requires { (3 ≤ p) × (p ≤ length out.old) }
     ensures { Put out.old out.new result p (ber_octets 0x02 (1 ∷ [])) × (p ≤ result + 3) }
 {
-    put(out, p - 3, 3, VERSION_FIELD);
+    copy_in(out, p - 3, &VERSION_FIELD);
     p - 3
 }
 
 // Puts what stands before the bindings of a response before place p, and gives the place where it starts.
-fn response_front(out: &mut [u8], p: usize, size: usize, id: u32, status: u8, index: u8) -> usize
+fn response_front(out: &mut [u8], p: usize, size: usize, head: Head) -> usize
     requires { (28 ≤ p) × (p ≤ length out.old) × (p + size < 65536) }
-    ensures { Put out.old out.new result p (response_front size id status index) × (p ≤ result + 28) }
+    ensures { Put out.old out.new result p (response_front size head.id head.status head.index) × (p ≤ result + 28) }
 {
     let l = header_before(out, p, BER_SEQUENCE, size);
-    let x = octet_field(out, l, index);
-    let t = octet_field(out, x, status);
-    let i = id_field(out, t, id);
+    let x = octet_field(out, l, head.index);
+    let t = octet_field(out, x, head.status);
+    let i = id_field(out, t, head.id);
     header_before(out, i, RESPONSE_PDU, p - i + size)
 }
 
@@ -147,16 +142,6 @@ fn datagram_front(out: &mut [u8], p: usize, community: usize, rest: usize) -> us
     header_before(out, v, BER_SEQUENCE, p - v + (community + rest))
 }
 
-fn not_written(number: u32, offset: u32) -> DatagramWritten
-    ensures { result ≡ record { number = number; count = 0; offset = offset } }
-{
-    DatagramWritten {
-        number,
-        count: 0,
-        offset,
-    }
-}
-
 // Puts a datagram: what stands before the community, the community, what stands before the bindings, the bindings.
 fn put_datagram(
     room: &mut [u8],
@@ -164,18 +149,17 @@ fn put_datagram(
     community: &[u8],
     response: &[u8],
     s: &[u8],
-    bindings: [Binding; 16],
-    count: usize,
+    bindings: &[Binding],
 )
-    requires { Ready s.now bindings count × (length front.now + (length community.now + (length response.now + length (bindings_ber (map (bound_at s.now) (take count bindings))))) ≤ length room.old) }
-    ensures { room.new ≡ patch room.old 0 (front.now ++ (community.now ++ (response.now ++ bindings_ber (map (bound_at s.now) (take count bindings))))) }
+    requires { Ready s.now bindings.now × (length front.now + (length community.now + (length response.now + length (bindings_ber (map (bound_at s.now) bindings.now)))) ≤ length room.old) }
+    ensures { room.new ≡ patch room.old 0 (front.now ++ (community.now ++ (response.now ++ bindings_ber (map (bound_at s.now) bindings.now)))) }
 {
     let c = front.len();
     let r = c + community.len();
     copy_in(room, 0, front);
     copy_in(room, c, community);
     copy_in(room, r, response);
-    put_bindings(room, r + response.len(), s, bindings, count);
+    put_bindings(room, r + response.len(), s, bindings);
 }
 
 // Writes a response that was read.
@@ -183,83 +167,49 @@ fn send(
     room: &mut [u8],
     community: &[u8],
     s: &[u8],
-    id: u32,
-    status: u8,
-    index: u8,
-    bindings: [Binding; 16],
-    count: usize,
-) -> DatagramWritten
-    requires { Ready s.now bindings count × (most_octets ≤ length room.old) }
-    ensures { sent_as result room.new ≡ sent room.old (datagram_octets community.now id status index (map (bound_at s.now) (take count bindings))) }
+    head: Head,
+    bindings: &[Binding],
+) -> Result<usize, Refusal>
+    requires { Ready s.now bindings.now × (most_octets ≤ length room.old) }
+    ensures { Brief result × (sent_as result room.new ≡ sent room.old (datagram_octets community.now head.id head.status head.index (map (bound_at s.now) bindings.now))) }
 {
     if MOST_OCTETS < community.len() {
-        return not_written(TOO_LONG as u32, 0);
+        return Err(OVER);
     }
-    let size = bindings_size(s, bindings, count);
+    let size = bindings_size(s, bindings);
     let mut response = [0u8; RESPONSE_FRONT];
-    let r = response_front(&mut response, RESPONSE_FRONT, size, id, status, index);
+    let r = response_front(&mut response, RESPONSE_FRONT, size, head);
     let rest = RESPONSE_FRONT - r + size;
     let mut front = [0u8; DATAGRAM_FRONT];
     let f = datagram_front(&mut front, DATAGRAM_FRONT, community.len(), rest);
     let n = DATAGRAM_FRONT - f + (community.len() + rest);
     if MOST_OCTETS < n {
-        return not_written(TOO_LONG as u32, 0);
+        return Err(OVER);
     }
-    put_datagram(
-        room,
-        &front[f..],
-        community,
-        &response[r..],
-        s,
-        bindings,
-        count,
-    );
-    DatagramWritten {
-        number: 0,
-        count: n as u32,
-        offset: 0,
-    }
+    put_datagram(room, &front[f..], community, &response[r..], s, bindings);
+    Ok(n)
 }
 
 // Reads the bindings of a response whose head was read, and sends it.
-fn send_bindings(
-    room: &mut [u8],
-    community: &[u8],
-    s: &[u8],
-    id: u32,
-    status: u8,
-    index: u8,
-) -> DatagramWritten
+fn send_bindings(room: &mut [u8], community: &[u8], s: &[u8], head: Head) -> Result<usize, Refusal>
     requires { (length s.now ≤ most_octets) × (most_octets ≤ length room.old) }
-    ensures { sent_as result room.new ≡ sent_by room.old community.now s.now (with_bindings 2 id status index (responses_from s.now 16 16)) }
+    ensures { Brief result × (sent_as result room.new ≡ sent_by room.old community.now s.now (with_bindings 2 head.id head.status head.index (responses_from s.now 16 16))) }
 {
-    let answers = read_answers(s);
-    if answers.whole {
-        let count = answers.count;
-        let bindings = answers.bindings;
-        return send(room, community, s, id, status, index, bindings, count);
-    }
-    let r = answers.refusal;
-    not_written(r.number as u32, r.at as u32)
+    let mut bindings = [NO_BINDING; MOST_BINDINGS];
+    let count = read_answers(s, &mut bindings)?;
+    send(room, community, s, head, &bindings[..count])
 }
 
 // A response to a datagram.
-pub fn to_datagram(message: &[u8], community: &[u8], room: &mut [u8]) -> DatagramWritten
-    ensures { sent_as result room.new ≡ to_datagram room.old community.now message.now }
+pub fn to_datagram(message: &[u8], community: &[u8], room: &mut [u8]) -> Result<usize, Refusal>
+    ensures { Brief result × (sent_as result room.new ≡ to_datagram room.old community.now message.now) }
 {
     if room.len() < MOST_OCTETS {
-        return not_written(ROOM_SHORT, 0);
+        return Err(SHORT);
     }
     if MOST_OCTETS < message.len() {
-        return not_written(TOO_LONG as u32, 0);
+        return Err(OVER);
     }
-    match response_head(message) {
-        Head::Refused(r) => not_written(r.number as u32, r.at as u32),
-        Head::Found {
-            kind: _,
-            id,
-            status,
-            index,
-        } => send_bindings(room, community, message, id, status, index),
-    }
+    let head = response_head(message)?;
+    send_bindings(room, community, message, head)
 }

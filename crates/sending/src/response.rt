@@ -1,134 +1,80 @@
 // Reading the response that is to be written as a datagram: the message form, and names that have a counterpart.
-ghost use Rattle.std.specs.Prelude.{◌≡◌, ◌+◌, ◌≤◌, length};
+ghost use Rattle.std.specs.Prelude.{◌≡◌, ◌+◌, ◌≤◌, IfOk, length};
 ghost use Rattle.message.specs.Form.{head_size, most_bindings};
-ghost use Rattle.message.specs.Request.{ended};
-ghost use Rattle.sending.specs.Writing.{name_written, response_in, response_at, responses_from, response_head, answers_of};
+ghost use Rattle.sending.specs.Writing.{name_written, response_in, response_at, responses_from, response_head, answered};
 
-use ber::NO_COUNTERPART;
-use message::form::{
-    Checked, HEAD_SIZE, KIND_AT, KIND_FIELD_AT, MOST_BINDINGS, Refusal, Role, checked_at,
-};
+use message::form::{HEAD_SIZE, KIND_AT, KIND_FIELD_AT, MOST_BINDINGS, Refusal, Role, checked_at};
 use message::kinds::RESPONSE;
-use message::refusals::HEAD_WRONG;
-use message::request::{Binding, BindingRead, Head, content_in, id_of, seventeenth_at};
+use message::refusals::Reason;
+use message::request::{Binding, Bound, Head, content_in, id_of, seventeenth_at};
 use octets::numbers::be4;
 
-// The bindings of a response: the first count of the array, the others are empty; or, where they are not whole, a refusal.
-#[derive(Drop)]
-pub struct ResponseRead {
-    pub whole: bool,
-    pub refusal: Refusal,
-    pub count: usize,
-    pub bindings: [Binding; MOST_BINDINGS],
-}
-
-const NO_BINDING: Binding = Binding {
-    name: 0,
-    size: 0,
-    tag: 0,
-    content: 0,
-    len: 0,
-};
-
-const NO_REFUSAL: Refusal = Refusal { number: 0, at: 0 };
-
 // Whether the name whose octets start at an offset has a counterpart.
+#[tactic(auto, unfolding(crate::specs::Writing::name_written))]
 pub fn name_written(s: &[u8], at: usize) -> bool
     requires { at + 8 ≤ length s.now }
     ensures { result ≡ name_written s.now at }
 {
     let first = be4(s, at);
     let second = be4(s, at + 4);
-    (first == 2) | ((first < 2) & (second < 40))
+    first == 2 || first < 2 && second < 40
 }
 
-pub fn response_in(s: &[u8], at: usize, end: usize) -> BindingRead
+#[tactic(auto, using(crate::proofs::ResponseLaws::name_found, message::proofs::FormLaws::found_within), unfolding(crate::specs::Writing::response_in))]
+pub fn response_in(s: &[u8], at: usize, end: usize) -> Result<Bound, Refusal>
     requires { end ≤ length s.now }
     ensures { result ≡ response_in s.now at end }
 {
-    match checked_at(Role::Name, s, at, end) {
-        Checked::Refused(r) => BindingRead::Refused(r),
-        Checked::Found { tag: _, start, len } => {
-            if name_written(s, start) {
-                content_in(2, s, end, start, len)
-            } else {
-                BindingRead::Refused(Refusal {
-                    number: NO_COUNTERPART,
-                    at: 0,
-                })
-            }
-        }
+    let name = checked_at(Role::Name, s, at, end)?;
+    if !name_written(s, name.start) {
+        return Err(Refusal {
+            reason: Reason::NoCounterpart,
+            at: 0,
+        });
     }
+    content_in(RESPONSE, s, end, name.start, name.len)
 }
 
-pub fn response_at(s: &[u8], at: usize) -> BindingRead
+#[tactic(auto, using(message::proofs::FormLaws::found_within), unfolding(crate::specs::Writing::response_at))]
+pub fn response_at(s: &[u8], at: usize) -> Result<Bound, Refusal>
     ensures { result ≡ response_at s.now at }
 {
-    match checked_at(Role::Bind, s, at, s.len()) {
-        Checked::Refused(r) => BindingRead::Refused(r),
-        Checked::Found { tag: _, start, len } => response_in(s, start, start + len),
-    }
+    let field = checked_at(Role::Bind, s, at, s.len())?;
+    response_in(s, field.start, field.start + field.len)
 }
 
-pub fn response_head(s: &[u8]) -> Head
+#[tactic(auto, using(message::proofs::FormLaws::kind_fits), unfolding(crate::specs::Writing::response_head))]
+pub fn response_head(s: &[u8]) -> Result<Head, Refusal>
     ensures { result ≡ response_head s.now }
 {
-    match checked_at(Role::Kind, s, KIND_FIELD_AT, s.len()) {
-        Checked::Refused(r) => Head::Refused(r),
-        Checked::Found {
-            tag: _,
-            start: _,
-            len: _,
-        } => {
-            if s[KIND_AT] == RESPONSE {
-                id_of(s, 2)
-            } else {
-                Head::Refused(Refusal {
-                    number: HEAD_WRONG,
-                    at: KIND_FIELD_AT,
-                })
-            }
-        }
+    checked_at(Role::Kind, s, KIND_FIELD_AT, s.len())?;
+    if s[KIND_AT] != RESPONSE {
+        return Err(Refusal {
+            reason: Reason::HeadWrong,
+            at: KIND_FIELD_AT,
+        });
     }
+    id_of(s, RESPONSE)
 }
 
-fn no_answers(r: Refusal) -> ResponseRead
-    ensures { result ≡ answers_of (ended r) }
+// Reads the bindings behind the head into the array, and gives their number.
+pub(crate) fn read_answers(
+    s: &[u8],
+    bindings: &mut [Binding; MOST_BINDINGS],
+) -> Result<usize, Refusal>
+    ensures { (answered result bindings.new ≡ responses_from s.now most_bindings head_size) × IfOk result (λ n. n ≤ most_bindings) }
 {
-    ResponseRead {
-        whole: false,
-        refusal: r,
-        count: 0,
-        bindings: [NO_BINDING; MOST_BINDINGS],
-    }
-}
-
-// The bindings behind the head.
-pub fn read_answers(s: &[u8]) -> ResponseRead
-    ensures { result ≡ answers_of (responses_from s.now most_bindings head_size) }
-{
-    let mut bindings = [NO_BINDING; MOST_BINDINGS];
     let mut n: usize = 0;
     let mut at: usize = HEAD_SIZE;
+    // No counted loop: the place goes on, and a 17th binding is a refusal of its own.
     while at < s.len() {
         if n == MOST_BINDINGS {
-            return no_answers(seventeenth_at(s, at));
+            return Err(seventeenth_at(s, at));
         }
-        match response_at(s, at) {
-            BindingRead::Refused(r) => {
-                return no_answers(r);
-            }
-            BindingRead::Bound { binding, next } => {
-                bindings[n] = binding;
-                n += 1;
-                at = next;
-            }
-        }
+        let read = response_at(s, at)?;
+        bindings[n] = read.binding;
+        n += 1;
+        at = read.next;
     }
-    ResponseRead {
-        whole: true,
-        refusal: NO_REFUSAL,
-        count: n,
-        bindings,
-    }
+    Ok(n)
 }

@@ -9,17 +9,20 @@ use lib.Dec.{leb}
 use lib.ListN.{length, get_or, drop, length-take}
 use Rattle.octets.specs.Numbers.{be_octets}
 use Rattle.message.specs.declared.form.Role.TheVariants.{Bind, Name}
-use Rattle.message.specs.declared.form.Checked.{Checked}
+use Rattle.std.specs.Prelude.{Result, Ok, Err}
+use Rattle.message.specs.declared.refusals.Reason.TheVariants.{NoCounterpart}
+use Rattle.message.specs.declared.form.Refusal.{Refusal}
+use Rattle.message.specs.declared.form.Field.{Field}
 use Rattle.message.specs.declared.request.Binding.{Binding}
 use Rattle.message.specs.declared.request.Head.{Head}
-use Rattle.message.specs.declared.request.BindingRead.{BindingRead}
+use Rattle.message.specs.declared.request.Bound.{Bound as Read}
 use Rattle.message.specs.Form.{checked_at, refusal, at_kind, head_size, most_bindings}
 use Rattle.message.specs.Request.{answers_too, kind_allowed, checked_then, head_of, content_in, content_role, binding_in, binding_at, Bindings, ended, all, prepend, binding_then, seventeenth, bindings_from, message, with_bindings, head_then, read_message}
 use Rattle.message.specs.Answer.{Bound, head_octets, message_octets, most_octets, bound_at}
 use Rattle.message.proofs.FormLaws.{clash, cond_cases}
 use Rattle.sending.specs.Writing.{name_written, response_in, response_at, responses_from, response_head, read_response, datagram_octets, sent, sent_by, to_datagram}
 use Rattle.sending.proofs.SendLaws.{checked-cases}
-use Rattle.sending.proofs.SentBack.{written-own}
+use Rattle.sending.proofs.WriteLaws.{written-own}
 use Rattle.sending.proofs.ReadBack.{any_octets, any-response, AllCarriedBy}
 use Rattle.shortest.specs.Theorems.{ShortestIsWritten}
 use Rattle.shortest.proofs.Theorems.{Formed, formed-reads, Canonical, canonical, shortest-is}
@@ -27,9 +30,9 @@ use Rattle.shortest.proofs.Theorems.{Formed, formed-reads, Canonical, canonical,
 module _ (s : List ℕ) where
   -- ## One binding
 
-  abbrev Named : ℕ → BindingRead → Type 0
-  Named name (BindingRead.Refused r) = Unit {0}
-  Named name (BindingRead.Bound b next) = b.name ≡ name
+  abbrev Named : ℕ → Result Read Refusal → Type 0
+  Named name (Err r) = Unit {0}
+  Named name (Ok d) = d.binding.name ≡ name
 
   content-named : (end name size : ℕ) → Named name (content_in 2 s end name size)
   unfolding content_in
@@ -37,27 +40,27 @@ module _ (s : List ℕ) where
       checked-cases (Named name) (content_role 2) s (name + size) end (λ r e. tt) (λ tag start len e. cond_cases (Named name) (leb end (start + len)) (λ t. refl) (λ t. tt))
 
   -- where the form reads a binding whose name has a counterpart, writing reads the same
-  abbrev BindingReadSame : (wrote reads : BindingRead) → Type 0
-  BindingReadSame wrote (BindingRead.Refused r) = Unit {0}
-  BindingReadSame wrote (BindingRead.Bound b next) = name_written s b.name ≡ true → wrote ≡ BindingRead.Bound b next
+  abbrev BindingReadSame : (wrote reads : Result Read Refusal) → Type 0
+  BindingReadSame wrote (Err r) = Unit {0}
+  BindingReadSame wrote (Ok d) = name_written s d.binding.name ≡ true → wrote ≡ Ok d
 
-  judged-same : (name : ℕ) (k stop : BindingRead) → Named name k → BindingReadSame (cond (name_written s name) k stop) k
-  judged-same name (BindingRead.Refused r) stop e = tt
-  judged-same name (BindingRead.Bound b next) stop e = λ h. rw (← e, h)
+  judged-same : (name : ℕ) (k stop : Result Read Refusal) → Named name k → BindingReadSame (cond (name_written s name) k stop) k
+  judged-same name (Err r) stop e = tt
+  judged-same name (Ok d) stop e = λ h. rw (← e, h)
 
-  name-same : (end : ℕ) (c : Checked)
-      → BindingReadSame (checked_then c BindingRead.Refused (λ tag start len. cond (name_written s start) (content_in 2 s end start len) (BindingRead.Refused (refusal 19 0))))
-      (checked_then c BindingRead.Refused (λ tag start len. content_in 2 s end start len))
-  name-same end (Checked.Refused r) = tt
-  name-same end (Checked.Found tag start len) = judged-same start (content_in 2 s end start len) (BindingRead.Refused (refusal 19 0)) (content-named end start len)
+  name-same : (end : ℕ) (c : Result Field Refusal)
+      → BindingReadSame (checked_then c Err (λ tag start len. cond (name_written s start) (content_in 2 s end start len) (Err (refusal NoCounterpart 0))))
+      (checked_then c Err (λ tag start len. content_in 2 s end start len))
+  name-same end (Err r) = tt
+  name-same end (Ok f) = judged-same f.start (content_in 2 s end f.start f.len) (Err (refusal NoCounterpart 0)) (content-named end f.start f.len)
 
   binding-read-same : (at : ℕ) → BindingReadSame (response_at s at) (binding_at 2 s at)
   unfolding response_at binding_at response_in binding_in
   binding-read-same at = go (checked_at Bind s at (length s))
     where
-      go : (c : Checked) → BindingReadSame (checked_then c BindingRead.Refused (λ tag start len. response_in s start (start + len))) (checked_then c BindingRead.Refused (λ tag start len. binding_in 2 s start (start + len)))
-      go (Checked.Refused r) = tt
-      go (Checked.Found tag start len) = name-same (start + len) (checked_at Name s start (start + len))
+      go : (c : Result Field Refusal) → BindingReadSame (checked_then c Err (λ tag start len. response_in s start (start + len))) (checked_then c Err (λ tag start len. binding_in 2 s start (start + len)))
+      go (Err r) = tt
+      go (Ok f) = name-same (f.start + f.len) (checked_at Name s f.start (f.start + f.len))
 
   -- ## All bindings
 
@@ -69,13 +72,13 @@ module _ (s : List ℕ) where
   Same wrote (ended r) = Unit {0}
   Same wrote (all bs) = AllWritten bs → wrote ≡ all bs
 
-  more_same : (wrote reads : BindingRead) (go other : ℕ → Bindings) → BindingReadSame wrote reads → ((next : ℕ) → Same (go next) (other next)) → Same (binding_then wrote go) (binding_then reads other)
-  more_same wrote (BindingRead.Refused r) go other w f = tt
-  more_same wrote (BindingRead.Bound b next) go other w f = prepended (other next) (f next)
+  more_same : (wrote reads : Result Read Refusal) (go other : ℕ → Bindings) → BindingReadSame wrote reads → ((next : ℕ) → Same (go next) (other next)) → Same (binding_then wrote go) (binding_then reads other)
+  more_same wrote (Err r) go other w f = tt
+  more_same wrote (Ok d) go other w f = prepended (other d.next) (f d.next)
     where
-      prepended : (x : Bindings) → Same (go next) x → Same (binding_then wrote go) (prepend b x)
+      prepended : (x : Bindings) → Same (go d.next) x → Same (binding_then wrote go) (prepend d.binding x)
       prepended (ended r) v = tt
-      prepended (all bs) v = λ h. ap (λ (k : BindingRead). binding_then k go) (w h.0) ∙ ap (prepend b) (v h.1)
+      prepended (all bs) v = λ h. ap (λ (k : Result Read Refusal). binding_then k go) (w h.0) ∙ ap (prepend d.binding) (v h.1)
 
   bindings-same : (left at : ℕ) → Same (responses_from s left at) (bindings_from 2 s left at)
   unfolding responses_from bindings_from
@@ -100,7 +103,7 @@ module _ (s : List ℕ) where
   response-same : (id status index : ℕ) (rs : List Binding) → get_or s at_kind 0 ≡ 2 → read_message answers_too s ≡ message 2 id status index rs → AllWritten rs → read_response s ≡ message 2 id status index rs
   unfolding read_message read_response
   response-same id status index rs two e w =
-      ap (λ (h : Head). head_then h (λ kind id status index. with_bindings kind id status index (responses_from s most_bindings head_size))) (head-same two) ∙ go (head_of answers_too s) e
+      ap (λ (h : Result Head Refusal). head_then h (λ kind id status index. with_bindings kind id status index (responses_from s most_bindings head_size))) (head-same two) ∙ go (head_of answers_too s) e
     where
       ends : (k i t x : ℕ) (bs : Bindings) → bindings_from k s 16 16 ≡ bs → with_bindings k i t x bs ≡ message 2 id status index rs → with_bindings k i t x (responses_from s most_bindings head_size) ≡ message 2 id status index rs
       ends k i t x (ended r) f q = clash (cc)
@@ -111,10 +114,10 @@ module _ (s : List ℕ) where
           let v : responses_from s most_bindings head_size ≡ all rs = subst (Same (responses_from s most_bindings head_size)) p (bindings-same 16 16) w in
           ap (with_bindings k i t x) v ∙ ap (message k i t x) (sym r) ∙ q
 
-      go : (h : Head) → head_then h (λ kind id status index. with_bindings kind id status index (bindings_from kind s 16 16)) ≡ message 2 id status index rs
+      go : (h : Result Head Refusal) → head_then h (λ kind id status index. with_bindings kind id status index (bindings_from kind s 16 16)) ≡ message 2 id status index rs
           → head_then h (λ kind id status index. with_bindings kind id status index (responses_from s most_bindings head_size)) ≡ message 2 id status index rs
-      go (Head.Refused r) q = clash (cc)
-      go (Head.Found k i t x) q = ends k i t x (bindings_from k s 16 16) refl q
+      go (Err r) q = clash (cc)
+      go (Ok h) q = ends h.kind h.id h.status h.index (bindings_from h.kind s 16 16) refl q
 
   all-written : (rs : List Binding) → AllCarriedBy 2 (map (bound_at s) rs) → AllWritten rs
   all-written [] w = tt

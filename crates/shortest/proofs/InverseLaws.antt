@@ -16,10 +16,12 @@ use Rattle.names.specs.SubIds.{name_octets, SubIdsFit}
 use Rattle.names.proofs.SubIdLaws.{subids-name_octets}
 use Rattle.message.specs.Form.{tag_allowed}
 use Rattle.message.specs.Request.{content_role}
-use Rattle.message.specs.declared.form.Role.TheVariants.{Null, Value, Answered}
-use Rattle.message.proofs.FormLaws.{clash}
+use Rattle.message.proofs.FormLaws.{clash, ok-same}
+use Rattle.message.specs.declared.refusals.Reason.{Reason}
+use Rattle.message.specs.declared.refusals.Reason.TheVariants.{HeadWrong, DatagramBroken, NoCounterpart}
+use Rattle.std.specs.Prelude.{Some, Result, Ok, Err, ⊤}
 use Rattle.ber.specs.Ber.{fewest, sign, five, four, integer32, unsigned32, unsigned8, is_number, ends_from, name_whole, numbers_from, first_of, first_two, sub_ids, all_below, name_fits, content_tag, content_judged, content_octets}
-use Rattle.datagram.specs.Reading.{status_judged}
+use Rattle.datagram.specs.Reading.{status_judged, tag_if, tag_taken}
 use Rattle.sending.specs.Writing.{shortened, going_on, base128, numbers_octets, first_one, name_ber, ber_tag, content_ber}
 use Rattle.sending.proofs.BackLaws.{Short, fits-short}
 use Rattle.ber.proofs.ContentLaws.{pick}
@@ -125,15 +127,15 @@ number-octet (x ∷ y ∷ xs) e =
     let (l, w) = both (eqb (length (x ∷ y ∷ xs)) 1) (eqb x 0) e in
     absurd (omega (arith, eqb-true (length (x ∷ y ∷ xs)) 1 l))
 
-pub status-inverse : (kind : ℕ) (xs : List ℕ) → fewest xs ≡ true → status_judged kind xs ≡ 0 → shortened (0 ∷ get_or xs (length xs - 1) 0 ∷ []) ≡ xs
+pub status-inverse : (kind : ℕ) (xs : List ℕ) → fewest xs ≡ true → status_judged kind xs ≡ Ok tt → shortened (0 ∷ get_or xs (length xs - 1) 0 ∷ []) ≡ xs
 unfolding status_judged
 status-inverse kind xs e j = octet-inverse xs e (go (is_number 0 xs) (eqb kind 2) (unsigned8 xs) refl refl j)
   where
-    go : (a b c : Bool) → is_number 0 xs ≡ a → unsigned8 xs ≡ c → ◌≡◌ {A = ℕ} (cond a 0 (cond b (cond c 0 19) 7)) 0 → unsigned8 xs ≡ true
+    go : (a b c : Bool) → is_number 0 xs ≡ a → unsigned8 xs ≡ c → ◌≡◌ {A = Result ⊤ Reason} (cond a (Ok tt) (cond b (cond c (Ok tt) (Err NoCounterpart)) (Err HeadWrong))) (Ok tt) → unsigned8 xs ≡ true
     go true b c p q z = number-octet xs p
     go false true true p q z = q
-    go false true false p q z = absurd (omega arith)
-    go false false c p q z = absurd (omega arith)
+    go false true false p q z = clash (cc)
+    go false false c p q z = clash (cc)
 
 -- ## Names
 
@@ -236,12 +238,12 @@ name-inverse xs o w f =
 written-number : (xs : List ℕ) → fewest xs ≡ true → cond (eqb (length xs) 0) [] (four xs) ≡ four xs
 written-number xs e = rw (ne_eqb (length xs) 0 (λ z. omega (arith, some-octets xs e)))
 
-empty-content : (t : Bool) (xs : List ℕ) → eqb (length xs) 0 ≡ t → ◌≡◌ {A = ℕ} (cond t 0 16) 0 → cond t [] (four xs) ≡ xs
+empty-content : (t : Bool) (xs : List ℕ) → eqb (length xs) 0 ≡ t → ◌≡◌ {A = Result ⊤ Reason} (cond t (Ok tt) (Err DatagramBroken)) (Ok tt) → cond t [] (four xs) ≡ xs
 empty-content true [] q e = refl
 empty-content true (x ∷ xs) q e = absurd (omega (arith, eqb-true (length (x ∷ xs)) 0 q))
-empty-content false xs q e = absurd (omega arith)
+empty-content false xs q e = clash (cc)
 
-pub content-inverse : (tag : ℕ) (xs : List ℕ) → content_judged tag xs ≡ 0 → content_ber tag (content_octets tag xs) ≡ xs
+pub content-inverse : (tag : ℕ) (xs : List ℕ) → content_judged tag xs ≡ Ok tt → content_ber tag (content_octets tag xs) ≡ xs
 unfolding content_judged content_ber content_octets integer32
 content-inverse tag xs =
     pick P 0x22 tag (λ e. refl)
@@ -258,34 +260,32 @@ content-inverse tag xs =
     (empty-content (eqb (length xs) 0) xs refl (rw (ne_eqb tag 0x21 n1, ne_eqb tag 0x22 n2, ne_eqb tag 0x23 n3, ne_eqb tag 0x24 n4) at e))))))
   where
     P : ℕ → Type 0
-    P t = content_judged t xs ≡ 0 → content_ber t (content_octets t xs) ≡ xs
+    P t = content_judged t xs ≡ Ok tt → content_ber t (content_octets t xs) ≡ xs
 
-differ : {A : Type 0} → false ≡ true → A
-differ e = clash (cc)
-
--- no place allows the tag 0
-never : (kind : ℕ) → tag_allowed (content_role kind) 0 ≡ false
-unfolding tag_allowed content_role
-never kind = go (eqb kind 3) (eqb kind 2)
-  where
-    go : (a b : Bool) → tag_allowed (cond a Value (cond b Answered Null)) 0 ≡ false
-    go true b = refl
-    go false true = refl
-    go false false = refl
+-- a tag that is taken is the content's own
+taken-is : (b : Bool) {m ours : ℕ} → ◌≡◌ {A = Result ℕ Reason} (cond b (Ok m) (Err NoCounterpart)) (Ok ours) → m ≡ ours
+taken-is true e = ok-same e
+taken-is false e = clash (cc)
 
 -- the tag of a content that a place allows
-pub tag-inverse : (kind tag : ℕ) → tag_allowed (content_role kind) (content_tag tag) ≡ true → ber_tag (content_tag tag) ≡ tag
-unfolding content_tag ber_tag
-tag-inverse kind tag =
-    pick P 0x05 tag (λ a. refl)
-    (λ n0. pick P 0x02 tag (λ a. refl)
-    (λ n1. pick P 0x04 tag (λ a. refl)
-    (λ n2. pick P 0x42 tag (λ a. refl)
-    (λ n3. pick P 0x41 tag (λ a. refl)
-    (λ n4. pick P 0x80 tag (λ a. refl)
-    (λ n5. pick P 0x81 tag (λ a. refl)
-    (λ n6. pick P 0x82 tag (λ a. refl)
-    (λ n7 a. differ (sym (never kind) ∙ (rw (ne_eqb tag 0x05 n0, ne_eqb tag 0x02 n1, ne_eqb tag 0x04 n2, ne_eqb tag 0x42 n3, ne_eqb tag 0x41 n4, ne_eqb tag 0x80 n5, ne_eqb tag 0x81 n6, ne_eqb tag 0x82 n7) at a))))))))))
+pub tag-inverse : (kind tag : ℕ) {ours : ℕ} → tag_taken kind tag ≡ Ok ours → ber_tag ours ≡ tag
+unfolding tag_taken content_tag ber_tag
+tag-inverse kind tag {ours} =
+    pick P 0x05 tag (own 0x20)
+    (λ n0. pick P 0x02 tag (own 0x21)
+    (λ n1. pick P 0x04 tag (own 0x22)
+    (λ n2. pick P 0x42 tag (own 0x23)
+    (λ n3. pick P 0x41 tag (own 0x24)
+    (λ n4. pick P 0x80 tag (own 0x30)
+    (λ n5. pick P 0x81 tag (own 0x31)
+    (λ n6. pick P 0x82 tag (own 0x32)
+    (λ n7 a. no-tag (rw (ne_eqb tag 0x05 n0, ne_eqb tag 0x02 n1, ne_eqb tag 0x04 n2, ne_eqb tag 0x42 n3, ne_eqb tag 0x41 n4, ne_eqb tag 0x80 n5, ne_eqb tag 0x81 n6, ne_eqb tag 0x82 n7) at a)))))))))
   where
     P : ℕ → Type 0
-    P t = tag_allowed (content_role kind) (content_tag t) ≡ true → ber_tag (content_tag t) ≡ t
+    P t = tag_taken kind t ≡ Ok ours → ber_tag ours ≡ t
+
+    own : (m : ℕ) → ◌≡◌ {A = Result ℕ Reason} (tag_if kind (Some m)) (Ok ours) → ber_tag ours ≡ ber_tag m
+    own m e = ap ber_tag (sym (taken-is (tag_allowed (content_role kind) m) e))
+
+    no-tag : ◌≡◌ {A = Result ℕ Reason} (Err NoCounterpart) (Ok ours) → ber_tag ours ≡ tag
+    no-tag e = clash (cc)

@@ -16,8 +16,10 @@ use Rattle.octets.proofs.NumberLaws.{Octets, be_at-one, be_octets-be_at, length-
 use Rattle.octets.proofs.BoolLaws.{both}
 use Rattle.octets.proofs.OctetLaws.{octets-append, octets-part, octets-none, octets-cons, octets-be}
 use Rattle.message.specs.declared.form.Field.{Field}
-use Rattle.message.specs.declared.form.Field.TheVariants.{Cut, Whole}
-use Rattle.ber.specs.Ber.{long_form, length_octets, length_said, whole_if, field_at}
+use Rattle.message.specs.Form.{field}
+use Rattle.message.proofs.FormLaws.{clash, some-same}
+use Rattle.std.specs.Prelude.{Option, Some, None}
+use Rattle.ber.specs.Ber.{long_form, length_octets, length_said, field_with, field_at}
 use Rattle.sending.specs.Writing.{length_form, header_form, ber_octets}
 use Rattle.ber.proofs.BerLaws.{said-long}
 
@@ -145,52 +147,52 @@ long-form s p n (suc (suc k)) o h e f =
     least-longer (part s p n) (length_form (length_said s p n)) (omega (arith, form-most (length_said s p n), part_length s p n h)) (octets-form (length_said s p n))
 
 -- the octets of a length as they stand, and the shortest
-least-length : (s : List ℕ) (p end n : ℕ) → Octets s → end ≤ length s → length_octets s p end ≡ n → 0 < n → Least (part s p n) (length_form (length_said s p n))
+least-length : (s : List ℕ) (p end n : ℕ) → Octets s → end ≤ length s → length_octets s p end ≡ Some n → Least (part s p n) (length_form (length_said s p n))
 unfolding length_octets
-least-length s p end n o l e z = go (ltb p end) refl e
+least-length s p end n o l e = go (ltb p end) refl e
   where
     x : ℕ
     x = get_or s p 0
 
-    inner : (t : Bool) → (long_form x && leb (p + (x - 127)) end) ≡ t → cond t (x - 127) 0 ≡ n → Least (part s p n) (length_form (length_said s p n))
+    inner : (t : Bool) → (long_form x && leb (p + (x - 127)) end) ≡ t → ◌≡◌ {A = Option ℕ} (cond t (Some (x - 127)) None) (Some n) → Least (part s p n) (length_form (length_said s p n))
     inner true q r =
+        let i : x - 127 ≡ n = some-same r in
         let (f, h) = both (long_form x) (leb (p + (x - 127)) end) q in
         let (a, b) = both (ltb 128 x) (ltb x 255) f in
         let above : 128 < x = ltb-true 128 x a in
         long-form s p n (x - 129) o (omega (arith, leb-true (p + (x - 127)) end h)) (omega arith) (omega arith)
-    inner false q r = absurd (omega arith)
+    inner false q r = clash (cc)
 
-    mid : (t : Bool) → ltb x 128 ≡ t → p < end → cond t 1 (cond (long_form x && leb (p + (x - 127)) end) (x - 127) 0) ≡ n → Least (part s p n) (length_form (length_said s p n))
-    mid true q k r = short-form s p n (omega arith) (sym r) (ltb-true x 128 q)
+    mid : (t : Bool) → ltb x 128 ≡ t → p < end → ◌≡◌ {A = Option ℕ} (cond t (Some 1) (cond (long_form x && leb (p + (x - 127)) end) (Some (x - 127)) None)) (Some n)
+        → Least (part s p n) (length_form (length_said s p n))
+    mid true q k r = short-form s p n (omega arith) (sym (some-same r)) (ltb-true x 128 q)
     mid false q k r = inner (long_form x && leb (p + (x - 127)) end) refl r
 
-    go : (t : Bool) → ltb p end ≡ t → cond t (cond (ltb x 128) 1 (cond (long_form x && leb (p + (x - 127)) end) (x - 127) 0)) 0 ≡ n → Least (part s p n) (length_form (length_said s p n))
+    go : (t : Bool) → ltb p end ≡ t → ◌≡◌ {A = Option ℕ} (cond t (cond (ltb x 128) (Some 1) (cond (long_form x && leb (p + (x - 127)) end) (Some (x - 127)) None)) None) (Some n)
+        → Least (part s p n) (length_form (length_said s p n))
     go true q r = mid (ltb x 128) refl (ltb-true p end q) r
-    go false q r = absurd (omega arith)
+    go false q r = clash (cc)
 
 -- ## Fields
 
 -- what a field that was read is
-abbrev FieldIs : List ℕ → (at end : ℕ) → Field → Type 0
-FieldIs s at end Cut = Unit {0}
-FieldIs s at end (Whole tag start len) =
-    (n : ℕ) × (length_octets s (at + 1) end ≡ n) × (0 < n) × (tag ≡ get_or s at 0) × (start ≡ at + 1 + n) × (len ≡ length_said s (at + 1) n) × (start + len ≤ end)
+abbrev FieldIs : List ℕ → (at end : ℕ) → Option Field → Type 0
+FieldIs s at end None = Unit {0}
+FieldIs s at end (Some f) =
+    (n : ℕ) × (length_octets s (at + 1) end ≡ Some n) × (f.tag ≡ get_or s at 0) × (f.start ≡ at + 1 + n) × (f.len ≡ length_said s (at + 1) n) × (f.start + f.len ≤ end)
 
 field_is : (s : List ℕ) (at end : ℕ) → FieldIs s at end (field_at s at end)
 unfolding field_at
 field_is s at end = go (length_octets s (at + 1) end) refl
   where
-    size : (n : ℕ) → length_octets s (at + 1) end ≡ n → 0 < n → (b : Bool) → leb (at + 1 + n + length_said s (at + 1) n) end ≡ b
-        → FieldIs s at end (cond b (Whole (get_or s at 0) (at + 1 + n) (length_said s (at + 1) n)) Cut)
-    size n e z true q = (n, e, z, refl, refl, refl, leb-true (at + 1 + n + length_said s (at + 1) n) end q)
-    size n e z false q = tt
+    size : (n : ℕ) → length_octets s (at + 1) end ≡ Some n → (b : Bool) → leb (at + 1 + n + length_said s (at + 1) n) end ≡ b
+        → FieldIs s at end (cond b (Some (field (get_or s at 0) (at + 1 + n) (length_said s (at + 1) n))) None)
+    size n e true q = (n, e, refl, refl, refl, leb-true (at + 1 + n + length_said s (at + 1) n) end q)
+    size n e false q = tt
 
-    some : (n : ℕ) → length_octets s (at + 1) end ≡ n → (a : Bool) → ltb 0 n ≡ a → FieldIs s at end (cond a (whole_if (get_or s at 0) (at + 1 + n) (length_said s (at + 1) n) end) Cut)
-    some n e true q = size n e (ltb-true 0 n q) (leb (at + 1 + n + length_said s (at + 1) n) end) refl
-    some n e false q = tt
-
-    go : (n : ℕ) → length_octets s (at + 1) end ≡ n → FieldIs s at end (cond (ltb 0 n) (whole_if (get_or s at 0) (at + 1 + n) (length_said s (at + 1) n) end) Cut)
-    go n e = some n e (ltb 0 n) refl
+    go : (k : Option ℕ) → length_octets s (at + 1) end ≡ k → FieldIs s at end (field_with s at end k)
+    go None e = tt
+    go (Some n) e = size n e (leb (at + 1 + n + length_said s (at + 1) n) end) refl
 
 -- a field from its header and its contents
 least-field : (tag : ℕ) (h k c : List ℕ) → Least h (header_form tag (length k)) → Least k c → Least (h ++ k) (ber_octets tag c)
@@ -241,12 +243,12 @@ module _ (s : List ℕ) (o : Octets s) where
   shown-none at next e h = shown-part at 0 next (omega arith) h
 
   -- the header of a field
-  header : (at end tag start len : ℕ) → field_at s at end ≡ Whole tag start len → end ≤ length s → (at ≤ start) × (start + len ≤ end) × Least (part s at (start - at)) (header_form tag len)
+  header : (at end tag start len : ℕ) → field_at s at end ≡ Some (field tag start len) → end ≤ length s → (at ≤ start) × (start + len ≤ end) × Least (part s at (start - at)) (header_form tag len)
   header at end tag start len e h =
-      let (n, l, z, t, a, i, k) = subst (FieldIs s at end) e (field_is s at end) in
+      let (n, l, t, a, i, k) = subst (FieldIs s at end) e (field_is s at end) in
       let q : start - at ≡ suc n = omega arith in
       let first : part s at (start - at) ≡ get_or s at 0 ∷ part s (at + 1) n = ap (part s at) q ∙ part-cons s at n (omega arith) in
-      let w : Least (part s (at + 1) n) (length_form len) = subst (λ (j : ℕ). Least (part s (at + 1) n) (length_form j)) (sym i) (least-length s (at + 1) end n o h l z) in (
+      let w : Least (part s (at + 1) n) (length_form len) = subst (λ (j : ℕ). Least (part s (at + 1) n) (length_form j)) (sym i) (least-length s (at + 1) end n o h l) in (
         omega arith,
         k,
         subst (λ (u : List ℕ). Least u (header_form tag len)) (sym (first ∙ ap (λ (j : ℕ). j ∷ part s (at + 1) n) (sym t)))
@@ -254,7 +256,7 @@ module _ (s : List ℕ) (o : Octets s) where
       )
 
   -- a field whose contents are shown
-  pub shown-field : (at end tag start len : ℕ) (c : List ℕ) → field_at s at end ≡ Whole tag start len → end ≤ length s → Shown s start (start + len) c → Shown s at (start + len) (ber_octets tag c)
+  pub shown-field : (at end tag start len : ℕ) (c : List ℕ) → field_at s at end ≡ Some (field tag start len) → end ≤ length s → Shown s start (start + len) c → Shown s at (start + len) (ber_octets tag c)
   shown-field at end tag start len c e h w =
       let (a, b, v) = header at end tag start len e h in
       let n : length (part s start (start + len - start)) ≡ len = part_length s start (start + len - start) (omega arith) ∙ omega arith in

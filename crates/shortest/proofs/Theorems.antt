@@ -12,6 +12,9 @@ use Rattle.octets.specs.Parts.{part, patch}
 use Rattle.octets.proofs.NumberLaws.{be_at-in, length-be_octets}
 use Rattle.names.specs.SubIds.{name_octets, SubIdsFit}
 use Rattle.names.proofs.SubIdLaws.{octets-name}
+use Rattle.std.specs.Prelude.{Result, Ok, Err}
+use Rattle.message.specs.Refusals.{number_of}
+use Rattle.message.specs.declared.refusals.Reason.{Reason}
 use Rattle.message.specs.declared.request.Binding.{Binding}
 use Rattle.message.specs.Request as request
 use Rattle.message.specs.Request.{kind_allowed, status_allowed}
@@ -20,8 +23,9 @@ use Rattle.message.specs.Theorems as form
 use Rattle.message.proofs.FormLaws.{cond_cases}
 use Rattle.message.proofs.ReadBack.{any-reads-back}
 use Rattle.ber.specs.Ber.{numbers_from, first_of, first_two, sub_ids}
-use Rattle.datagram.specs.Reading.{takes_of, Within, bound_at, DatagramRead, refused, message, read_datagram, Given, given_by, from_datagram, handed}
+use Rattle.datagram.specs.Reading.{takes_of, Within, bound_at, Message, read_datagram, Given, given_by, from_datagram, handed}
 use Rattle.sending.specs.Writing.{name_written}
+use Rattle.sending.specs.Theorems.{message_read}
 use Rattle.ber.proofs.NameLaws.{two-sub-ids}
 use Rattle.datagram.proofs.PlaceLaws.{name_back, name_below, call-read}
 use Rattle.datagram.proofs.ReadLaws.{AllWithin, DatagramTells, datagram-tells}
@@ -30,7 +34,7 @@ use Rattle.datagram.proofs.ReadableLaws.{all-carried, length-bound}
 use Rattle.shortest.specs.Theorems.{DatagramOf, Shortest, ShortestEqual, ShortestExists}
 use Rattle.shortest.proofs.InverseLaws.{below-fits}
 use Rattle.shortest.proofs.LeastLaws.{Least}
-use Rattle.shortest.proofs.RefusalLaws.{DatagramSure, datagram-sure}
+use Rattle.shortest.proofs.RefusalLaws.{number-sure}
 use Rattle.shortest.proofs.ShownLaws.{read-least}
 
 -- ## A message in its parts
@@ -129,7 +133,7 @@ abbrev HandedOver : Bool → (room d : List ℕ) → Given → Type 0
 HandedOver answers room d g =
     g.number ≡ 0
     → (kind : ℕ) × (id : ℕ) × (status : ℕ) × (index : ℕ) × (bs : List Binding)
-    × (read_datagram answers d ≡ message kind id status index g.community g.size bs) × (length d ≤ most_octets) × (g.count ≤ most_octets)
+    × (read_datagram answers d ≡ Ok (message_read kind id status index g.community g.size bs)) × (length d ≤ most_octets) × (g.count ≤ most_octets)
     × (g.count ≡ length (message_octets kind id status index (map (bound_at d) bs))) × (g.room ≡ patch room 0 (message_octets kind id status index (map (bound_at d) bs)))
 
 nothing : {A : Type 0} (n : ℕ) → 0 < n → n ≡ 0 → A
@@ -140,14 +144,14 @@ unfolding from_datagram given_by
 handed-over answers room d =
     cond_cases (HandedOver answers room d) (ltb (length room) most_octets) (λ t h. nothing 1 (omega arith) h)
     (λ t. cond_cases (HandedOver answers room d) (ltb most_octets (length d)) (λ u h. nothing 20 (omega arith) h)
-    (λ u. read (ltb-false most_octets (length d) u) (read_datagram answers d) refl (datagram-sure d answers)))
+    (λ u. read (ltb-false most_octets (length d) u) (read_datagram answers d) refl))
   where
-    read : length d ≤ most_octets → (x : DatagramRead) → read_datagram answers d ≡ x → DatagramSure x → HandedOver answers room d (given_by room d x)
-    read l (refused n) e w = λ h. nothing n w h
-    read l (message kind id status index community size bs) e w =
-        let octets : List ℕ = message_octets kind id status index (map (bound_at d) bs) in
+    read : length d ≤ most_octets → (x : Result Message Reason) → read_datagram answers d ≡ x → HandedOver answers room d (given_by room d x)
+    read l (Err r) e = λ h. nothing (number_of r) (number-sure r) h
+    read l (Ok k) e =
+        let octets : List ℕ = message_octets k.kind k.id k.status k.index (map (bound_at d) k.bindings) in
         cond_cases (HandedOver answers room d) (leb (length octets) most_octets)
-        (λ t h. (kind, id, status, index, bs, e, l, leb-true (length octets) most_octets t, refl, refl))
+        (λ t h. (k.kind, k.id, k.status, k.index, k.bindings, e, l, leb-true (length octets) most_octets t, refl, refl))
         (λ t h. nothing 20 (omega arith) h)
 
 -- octets in a room, read from it
@@ -156,10 +160,10 @@ same-put room a b l e = sym (name_back room a (length a) refl) ∙ ap (take (len
 
 -- octets that are read to the message m hand it over
 handed-again : (answers : Bool) (room m x d : List ℕ) (kind id status index at : ℕ) (rs : List Binding) → most_octets ≤ length room → length d ≤ most_octets → length m ≤ most_octets
-    → read_datagram answers d ≡ message kind id status index at (length x) rs → message_octets kind id status index (map (bound_at d) rs) ≡ m
+    → read_datagram answers d ≡ Ok (message_read kind id status index at (length x) rs) → message_octets kind id status index (map (bound_at d) rs) ≡ m
     → from_datagram answers room d ≡ record { number = 0; count = length m; community = at; size = length x; room = patch room 0 m }
 handed-again answers room m x d kind id status index at rs long short fits e own =
-    sym (call-read answers room d long short e) ∙ ap (handed room at (length x)) own ∙ rw (le-leb (length m) most_octets fits)
+    sym (call-read answers room d long short e) ∙ ap (handed room (record { start = at; len = length x })) own ∙ rw (le-leb (length m) most_octets fits)
 
 pub canonical : (answers : Bool) (m x d : List ℕ) → DatagramOf answers m x d → Canonical answers m x d
 canonical answers m x d w =
@@ -168,8 +172,8 @@ canonical answers m x d w =
     let (kind, id, status, index, rs, e, short, fits, n, p) = subst (HandedOver answers room d) r (handed-over answers room d) refl in
     made kind id status index at rs e c short fits (same-put room m (message_octets kind id status index (map (bound_at d) rs)) n p) (subst (DatagramTells answers d) e (datagram-tells answers d))
   where
-    made : (kind id status index at : ℕ) (rs : List Binding) → read_datagram answers d ≡ message kind id status index at (length x) rs → part d at (length x) ≡ x → length d ≤ most_octets → length m ≤ most_octets
-        → m ≡ message_octets kind id status index (map (bound_at d) rs) → DatagramTells answers d (message kind id status index at (length x) rs) → Canonical answers m x d
+    made : (kind id status index at : ℕ) (rs : List Binding) → read_datagram answers d ≡ Ok (message_read kind id status index at (length x) rs) → part d at (length x) ≡ x → length d ≤ most_octets → length m ≤ most_octets
+        → m ≡ message_octets kind id status index (map (bound_at d) rs) → DatagramTells answers d (Ok (message_read kind id status index at (length x) rs)) → Canonical answers m x d
     made kind id status index at rs e c short fits own t =
         let bs : List Bound = map (bound_at d) rs in
         let ys : List ℕ = any_octets kind x id status index bs in

@@ -1,6 +1,6 @@
 -- Laws of `specs/Contrast.antt`. Assumes nothing.
 use Prim.Native.Nat.{ℕ, ◌≤◌, ◌<◌}
-use mathlib.Core.Path.{◌≡◌, sym, ap, ◌∙◌}
+use mathlib.Core.Path.{◌≡◌, refl, sym, ap, ◌∙◌}
 use mathlib.Core.List.{List}
 use mathlib.Core.Bool.{true, false, ◌&&◌}
 use native.Mathlib.Omega.{arith}
@@ -9,26 +9,38 @@ use lib.Seq.{take_all}
 use lib.Dec.{leb, eqb}
 use borrow.Author.Tests.{leb-true}
 use Rattle.octets.proofs.BoolLaws.{both}
-use Rattle.names.specs.Table.{place_of, found, object_at, object_count}
-use Rattle.names.specs.declared.table.Found.{Found}
-use Rattle.names.specs.declared.table.Found.TheVariants.{Object, Unknown}
+use Rattle.std.specs.Prelude.{Option, Some, None}
+use Rattle.names.specs.Index.{answered}
+use Rattle.names.specs.Table.{place_of, object_at, object_count}
+use Rattle.names.proofs.AnswerLaws.{told, told-answer}
 use Rattle.names.specs.declared.table.ObjectType.{ObjectType}
 use Rattle.names.specs.declared.table.Syntax.{Syntax}
-use Rattle.names.proofs.TableLaws.{place_is, told_place, place-told}
+use Rattle.names.specs.declared.table.Syntax.TheVariants.{Integer, Text, Unsigned, Counter, Ports}
+use Rattle.names.proofs.TableLaws.{place_is}
 use Rattle.walks.specs.Contrast.{is_ports, ports_place, ports_column, short_string, port_sets}
 
 -- a place that is told is one of the table
-pub place-fits : (name : List ℕ) (i : ℕ) {r : Found} → r ≡ found (place_of name) → r ≡ Object i → i < object_count
-place-fits name i e h = (place_is name i (place-told (place_of name) e ∙ ap told_place h)).0
+pub place-fits : (name : List ℕ) (i : ℕ) {r : Option ℕ} → r ≡ answered (place_of name) → r ≡ Some i → i < object_count
+place-fits name i e h = (place_is name i (told-answer (place_of name) e ∙ ap told h)).0
 
 -- an object type's syntax decides whether it holds port sets
-pub column-is : (name : List ℕ) (i : ℕ) {r : Found} {o : ObjectType} {z : Syntax} → r ≡ found (place_of name) → r ≡ Object i → o ≡ object_at i → o.syntax ≡ z → is_ports z ≡ ports_column name
+pub column-is : (name : List ℕ) (i : ℕ) {r : Option ℕ} {o : ObjectType} {z : Syntax} → r ≡ answered (place_of name) → r ≡ Some i → o ≡ object_at i → o.syntax ≡ z → is_ports z ≡ ports_column name
 unfolding ports_column
-column-is name i e h f g = ap is_ports (sym g ∙ ap (λ (o : ObjectType). o.syntax) f) ∙ sym (ap ports_place (place-told (place_of name) e ∙ ap told_place h))
+column-is name i e h f g = ap is_ports (sym g ∙ ap (λ (o : ObjectType). o.syntax) f) ∙ sym (ap ports_place (told-answer (place_of name) e ∙ ap told h))
 
-pub column-unknown : (name : List ℕ) {r : Found} → r ≡ found (place_of name) → r ≡ Unknown → false ≡ ports_column name
+no-ports : (z : Syntax) → (z ≡ Ports → ⊥) → false ≡ is_ports z
+no-ports Integer h = refl
+no-ports Text h = refl
+no-ports Unsigned h = refl
+no-ports Counter h = refl
+no-ports Ports h = absurd (h refl)
+
+pub column-is-not : (name : List ℕ) (i : ℕ) {r : Option ℕ} {o : ObjectType} → r ≡ answered (place_of name) → r ≡ Some i → o ≡ object_at i → (o.syntax ≡ Ports → ⊥) → false ≡ ports_column name
+column-is-not name i {r} {o} e h f g = no-ports o.syntax g ∙ column-is name i e h f refl
+
+pub column-unknown : (name : List ℕ) {r : Option ℕ} → r ≡ answered (place_of name) → r ≡ None → false ≡ ports_column name
 unfolding ports_column
-column-unknown name e h = sym (ap ports_place (place-told (place_of name) e ∙ ap told_place h))
+column-unknown name e h = sym (ap ports_place (told-answer (place_of name) e ∙ ap told h))
 
 -- both of two port sets have at most 8 octets
 pub sets-short : (name : List ℕ) (tag : ℕ) (xs : List ℕ) (tag' : ℕ) (ys : List ℕ) → port_sets name tag xs tag' ys ≡ true → (length xs ≤ 8) × (length ys ≤ 8)

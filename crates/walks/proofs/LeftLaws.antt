@@ -9,14 +9,15 @@ use native.Mathlib.Omega.{arith}
 use borrow.Author.Tests.{lt-ltb, le-ltb}
 use lib.ListN.{length}
 use lib.Dec.{ltb}
+use Rattle.std.specs.Prelude.{Result, Ok, Err}
 use Rattle.names.specs.Order.{below}
-use Rattle.message.specs.Request.{binding_at}
+use Rattle.message.specs.Request.{binding_at, read_to}
 use Rattle.message.specs.declared.request.Binding.{Binding}
-use Rattle.message.specs.declared.request.BindingRead.{BindingRead}
+use Rattle.message.specs.declared.form.Refusal.{Refusal}
+use Rattle.message.specs.declared.request.Bound.{Bound}
 use Rattle.message.proofs.BindingLaws.{Placed, stands}
 use Rattle.message.proofs.FormLaws.{clash}
-use Rattle.walks.specs.declared.walk.WalkJudged.{WalkJudged}
-use Rattle.walks.specs.Walk.{Item, item, name_of, Walk, faulty, whole, item_before, item_then, not_ascending, walk_from, walk_of, walk_judged}
+use Rattle.walks.specs.Walk.{Item, item, name_of, Walk, item_before, item_then, not_ascending, walk_from, walk_of, walk_judged}
 use Rattle.walks.specs.Turn.{items}
 use Rattle.walks.specs.Compare.{start_of, outlasts}
 use Rattle.walks.proofs.WalkLaws.{from_end, from_step}
@@ -26,20 +27,20 @@ pub record Left (s : List ℕ) (at : ℕ) (xs : List Item) : Type 0 where
   pub last : List ℕ
   pub left : ℕ
   pub enough : length s ≤ at + left
-  pub rest : walk_from s left last at ≡ whole xs
+  pub rest : walk_from s left last at ≡ Ok xs
   pub inside : at ≤ length s
 
-pub left-start : (s : List ℕ) → walk_judged (walk_of s) ≡ WalkJudged.Whole → Left s 0 (items (walk_of s))
+pub left-start : (s : List ℕ) → walk_judged (walk_of s) ≡ Ok tt → Left s 0 (items (walk_of s))
 left-start s = go (walk_of s) refl
   where
-    go : (w : Walk) → walk_of s ≡ w → walk_judged w ≡ WalkJudged.Whole → Left s 0 (items w)
-    go (faulty r) p e = clash (cc)
-    go (whole xs) p e = unfold walk_of in record { last = []; left = length s; enough = omega arith; rest = p; inside = omega arith }
+    go : (w : Walk) → walk_of s ≡ w → walk_judged w ≡ Ok tt → Left s 0 (items w)
+    go (Err r) p e = clash (cc)
+    go (Ok xs) p e = unfold walk_of in record { last = []; left = length s; enough = omega arith; rest = p; inside = omega arith }
 
 -- nothing is left at the end
 pub left_end : {s : List ℕ} {at : ℕ} {xs : List Item} → Left s at xs → length s ≤ at → xs ≡ []
 left_end {s} {at} {xs} w h =
-    let p : whole [] ≡ whole xs = sym (from_end s w.left w.last at h) ∙ w.rest in
+    let p : Ok [] ≡ Ok xs = sym (from_end s w.left w.last at h) ∙ w.rest in
     cc
 
 -- before the end a binding is left, and what follows it
@@ -47,16 +48,16 @@ pub record Next (s : List ℕ) (at : ℕ) (xs : List Item) : Type 0 where
   pub binding : Binding
   pub next : ℕ
   pub tail : List Item
-  pub bound : binding_at 3 s at ≡ BindingRead.Bound binding next
+  pub bound : binding_at 3 s at ≡ Ok (read_to binding next)
   pub head : xs ≡ item s at binding ∷ tail
   pub onward : Left s next tail
   pub place : Placed 3 s at binding next
 
 module _ {s : List ℕ} {at : ℕ} {xs : List Item} (w : Left s at xs) (h : at < length s) where
-  binding-left : (b : Binding) (next : ℕ) → binding_at 3 s at ≡ BindingRead.Bound b next → (r : Walk) → walk_from s (w.left - 1) (name_of s b) next ≡ r
-      → item_before (item s at b) r ≡ whole xs → Next s at xs
-  binding-left b next e (faulty r) p q = clash (cc)
-  binding-left b next e (whole ys) p q =
+  binding-left : (b : Binding) (next : ℕ) → binding_at 3 s at ≡ Ok (read_to b next) → (r : Walk) → walk_from s (w.left - 1) (name_of s b) next ≡ r
+      → item_before (item s at b) r ≡ Ok xs → Next s at xs
+  binding-left b next e (Err r) p q = clash (cc)
+  binding-left b next e (Ok ys) p q =
       let v : Placed 3 s at b next = stands {k = binding_at 3 s at} refl e in
       record {
         binding = b;
@@ -68,12 +69,12 @@ module _ {s : List ℕ} {at : ℕ} {xs : List Item} (w : Left s at xs) (h : at <
         place = v;
       }
 
-  step_left : (k : BindingRead) → binding_at 3 s at ≡ k → item_then s w.last at k (walk_from s (w.left - 1)) ≡ whole xs → Next s at xs
-  step_left (BindingRead.Refused r) e p = clash (cc)
-  step_left (BindingRead.Bound b next) e p = go (below w.last (name_of s b)) p
+  step_left : (k : Result Bound Refusal) → binding_at 3 s at ≡ k → item_then s w.last at k (walk_from s (w.left - 1)) ≡ Ok xs → Next s at xs
+  step_left (Err r) e p = clash (cc)
+  step_left (Ok d) e p = go (below w.last (name_of s d.binding)) p
     where
-      go : (t : Bool) → cond t (item_before (item s at b) (walk_from s (w.left - 1) (name_of s b) next)) (faulty not_ascending) ≡ whole xs → Next s at xs
-      go true q = binding-left b next e (walk_from s (w.left - 1) (name_of s b) next) refl q
+      go : (t : Bool) → cond t (item_before (item s at d.binding) (walk_from s (w.left - 1) (name_of s d.binding) d.next)) (Err not_ascending) ≡ Ok xs → Next s at xs
+      go true q = binding-left d.binding d.next e (walk_from s (w.left - 1) (name_of s d.binding) d.next) refl q
       go false q = clash (cc)
 
   pub left-next : Next s at xs

@@ -1,20 +1,20 @@
 -- Laws of `specs/Merge.antt`: the comparison turn by turn, the list's octets and the totals. Assumes nothing.
 use Prim.Native.Nat.{ℕ, ◌+◌, ◌*◌}
-use mathlib.Core.Logic.{◌⊎◌, inl, inr}
 use mathlib.Core.Path.{◌≡◌, refl, sym, ap}
 use mathlib.Core.List.{List, [], ◌∷◌, ◌++◌, append_assoc, append-nil}
 use mathlib.Core.Bool.{Bool, true, false, cond, ◌&&◌}
 use native.Mathlib.Omega.{arith}
 use lib.ListN.{length, length-append}
 use lib.Dec.{eqb}
+use Rattle.std.specs.Prelude.{is_some, Some, None}
 use Rattle.octets.specs.Parts.{same}
 use Rattle.octets.specs.Ports.{set_of, members, first_differing}
 use Rattle.octets.proofs.NumberLaws.{length-be_octets}
 use Rattle.names.specs.Order.{relation}
 use Rattle.walks.specs.Walk.{Item}
 use Rattle.walks.specs.Contrast.{contrast, contrasted, port_contrast, plain_contrast, port_sets}
-use Rattle.walks.specs.Merge.{Entry, only_reference, only_device, differing, Merged, merged, listed, listed_if, contrast_of, merge, merge_from, twenty, entry_octets, list_octets, kind_of, total}
-use Rattle.names.specs.declared.order.Relation.TheVariants.{Lower, Same, Higher}
+use Rattle.walks.specs.Merge.{Entry, only_reference, only_device, differing, Merged, merged, listed, listed_if, contrast_of, told, merge, merge_from, twenty, entry_octets, list_octets, kind_of, total}
+use Rattle.std.specs.declared.cmp.Ordering.TheVariants.{Less, Equal, Greater}
 
 -- entries before those of a comparison
 abbrev pub appended : List Entry → Merged → Merged
@@ -35,43 +35,34 @@ merge-alone (x ∷ xs) = refl
 
 -- the three turns
 module _ (x : Item) (xs : List Item) (y : Item) (ys : List Item) where
-  pub merge-below : relation x.name y.name ≡ Lower → merge (x ∷ xs) (y ∷ ys) ≡ listed (only_reference x) (merge xs (y ∷ ys))
+  pub merge-below : relation x.name y.name ≡ Less → merge (x ∷ xs) (y ∷ ys) ≡ listed (only_reference x) (merge xs (y ∷ ys))
   unfolding merge merge_from
   merge-below e = rw e
 
-  pub merge-same : relation x.name y.name ≡ Same → merge (x ∷ xs) (y ∷ ys) ≡ listed_if x y (merge xs ys)
+  pub merge-same : relation x.name y.name ≡ Equal → merge (x ∷ xs) (y ∷ ys) ≡ listed_if x y (merge xs ys)
   unfolding merge merge_from
   merge-same e = rw e
 
-  pub merge-above : relation x.name y.name ≡ Higher → merge (x ∷ xs) (y ∷ ys) ≡ listed (only_device y) (merge (x ∷ xs) ys)
+  pub merge-above : relation x.name y.name ≡ Greater → merge (x ∷ xs) (y ∷ ys) ≡ listed (only_device y) (merge (x ∷ xs) ys)
   unfolding merge merge_from
   merge-above e = rw e
 
--- contents differ, kind 3, or do not, kind 0: by the sets for port sets, and else by tag and octets
-abbrev pub kind_by : (ports sets plain : Bool) → ℕ
-kind_by ports sets plain = cond ports (cond sets 0 3) (cond plain 0 3)
+-- contents differ: by the sets for port sets, and else by tag and octets
+abbrev pub differ_by : (ports sets plain : Bool) → Bool
+differ_by ports sets plain = cond ports (cond sets false true) (cond plain false true)
 
-pub kind_is : (name : List ℕ) (tag : ℕ) (us : List ℕ) (tag' : ℕ) (vs : List ℕ)
-    → (contrast name tag us tag' vs).kind ≡ kind_by (port_sets name tag us tag' vs) (eqb (set_of us) (set_of vs)) (eqb tag tag' && same us vs)
+pub differ-is : (name : List ℕ) (tag : ℕ) (us : List ℕ) (tag' : ℕ) (vs : List ℕ)
+    → is_some (contrast name tag us tag' vs) ≡ differ_by (port_sets name tag us tag' vs) (eqb (set_of us) (set_of vs)) (eqb tag tag' && same us vs)
 unfolding contrast port_contrast plain_contrast
-kind_is name tag us tag' vs = go (port_sets name tag us tag' vs) (eqb (set_of us) (set_of vs)) (eqb tag tag' && same us vs)
+differ-is name tag us tag' vs = go (port_sets name tag us tag' vs) (eqb (set_of us) (set_of vs)) (eqb tag tag' && same us vs)
   where
     go : (p q r : Bool)
-        → (cond p (cond q (contrasted 0 0 0 0) (contrasted 3 (members 64 (set_of us)) (members 64 (set_of vs)) (first_differing 64 (set_of us) (set_of vs)))) (cond r (contrasted 0 0 0 0) (contrasted 3 0 0 0))).kind
-        ≡ kind_by p q r
+        → is_some (cond p (cond q None (Some (contrasted (members 64 (set_of us)) (members 64 (set_of vs)) (first_differing 64 (set_of us) (set_of vs))))) (cond r None (Some (contrasted 0 0 0))))
+        ≡ differ_by p q r
     go true true r = refl
     go true false r = refl
     go false q true = refl
     go false q false = refl
-
-pub contrast-kinds : (name : List ℕ) (tag : ℕ) (us : List ℕ) (tag' : ℕ) (vs : List ℕ) → ((contrast name tag us tag' vs).kind ≡ 0) ⊎ ((contrast name tag us tag' vs).kind ≡ 3)
-contrast-kinds name tag us tag' vs = rw (kind_is name tag us tag' vs) (go (port_sets name tag us tag' vs) (eqb (set_of us) (set_of vs)) (eqb tag tag' && same us vs))
-  where
-    go : (p q r : Bool) → (kind_by p q r ≡ 0) ⊎ (kind_by p q r ≡ 3)
-    go true true r = inl refl
-    go true false r = inr refl
-    go false q true = inl refl
-    go false q false = inr refl
 
 -- an entry has 20 octets
 length-twenty : (k a b f r d : ℕ) → length (twenty k a b f r d) ≡ 20
@@ -81,7 +72,7 @@ pub length-entry : (e : Entry) → length (entry_octets e) ≡ 20
 unfolding entry_octets
 length-entry (only_reference x) = length-twenty 1 0 0 0 x.at 0
 length-entry (only_device y) = length-twenty 2 0 0 0 0 y.at
-length-entry (differing x y) = length-twenty 3 (contrast_of x y).ours (contrast_of x y).theirs (contrast_of x y).first x.at y.at
+length-entry (differing x y) = let c = told (contrast_of x y) in length-twenty 3 c.ours c.theirs c.first x.at y.at
 
 pub length-list : (es : List Entry) → length (list_octets es) ≡ 20 * length es
 unfolding list_octets

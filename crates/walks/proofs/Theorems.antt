@@ -11,6 +11,7 @@ use borrow.Author.Tests.{eq-eqb, eqb-true, eqb-false, le-leb}
 use lib.ListN.{length, get_or, drop, length-drop}
 use lib.Seq.{length-take-le, get_or-append-add}
 use lib.Dec.{leb, eqb}
+use Rattle.std.specs.Prelude.{is_some, Result, Ok, Err}
 use Rattle.octets.specs.Parts.{part, same}
 use Rattle.octets.specs.Ports.{member, set_of}
 use Rattle.octets.proofs.PartLaws.{same_refl, same-eq, eqb_swap, same-swap}
@@ -22,17 +23,19 @@ use Rattle.names.proofs.SubIdLaws.{subids-step}
 use Rattle.names.proofs.OrderLaws.{below-nil}
 use Rattle.names.proofs.TableLaws.{place_is, place-only}
 use Rattle.message.specs.Request.{binding_at}
-use Rattle.message.specs.declared.request.BindingRead.{BindingRead}
+use Rattle.message.specs.Refusals.{number_of}
+use Rattle.message.specs.declared.form.Refusal.{Refusal}
+use Rattle.message.specs.declared.request.Bound.{Bound}
 use Rattle.message.proofs.BindingLaws.{Placed, stands}
 use Rattle.message.proofs.FormLaws.{clash}
-use Rattle.walks.specs.Walk.{Item, item, name_of, Walk, faulty, whole, item_before, item_then, not_ascending, walk_from, walk_of}
+use Rattle.walks.specs.Walk.{Item, item, name_of, Walk, item_before, item_then, not_ascending, walk_from, walk_of}
 use Rattle.walks.specs.Contrast.{is_ports, ports_place, short_string, ports_column, port_sets}
 use Rattle.walks.specs.Merge.{Entry, only_reference, only_device, differing, Merged, merged, listed, listed_if, merge, contrast_of, entry_octets, list_octets, kind_of, total}
 use Rattle.walks.specs.Compare.{CompareOutcome, refused_with, start_of, outlasts, completed, walk_then, compared, listed_in, tailed}
 use Rattle.walks.specs.Theorems.{In, AllAbove, Ascending, names, entry_name, Unnamed, WalksAscend, ReadWhole, FirstAscends, EntriesAscend, TotalsAdd, KindsWritten, OneTail, TailsEnd, OnlyInReference, OnlyInDevice, swap_entry, Exchanged, Swaps, CallExchanged, RefusalKeeps, DifferingInBoth, EqualWalks, UnderPortsColumn, PortsDiffer, OthersDiffer, MissingOctets}
 use Rattle.walks.proofs.WalkLaws.{from_end, from_step}
 use Rattle.names.proofs.RelationLaws.{related-below, related_same, related-above}
-use Rattle.walks.proofs.MergeLaws.{kind_by, kind_is, merge_none, merge-alone, merge-below, merge-same, merge-above, length-entry, totals-add}
+use Rattle.walks.proofs.MergeLaws.{differ_by, differ-is, merge_none, merge-alone, merge-below, merge-same, merge-above, length-entry, totals-add}
 use Rattle.walks.proofs.InductLaws.{merge-induct, never-below, above-all, above_in, walk_up}
 
 pub walks-ascend : WalksAscend
@@ -40,11 +43,11 @@ unfolding walk_of
 walks-ascend s xs e = (walk_up s (length s) [] 0 xs e).1
 
 -- the bound on the number of bindings does not matter
-step-more : (s last : List ℕ) (at : ℕ) (f g : List ℕ → ℕ → Walk) (k : BindingRead) → binding_at 3 s at ≡ k → ((last' : List ℕ) (next : ℕ) → at + 3 ≤ next → f last' next ≡ g last' next)
+step-more : (s last : List ℕ) (at : ℕ) (f g : List ℕ → ℕ → Walk) (k : Result Bound Refusal) → binding_at 3 s at ≡ k → ((last' : List ℕ) (next : ℕ) → at + 3 ≤ next → f last' next ≡ g last' next)
     → item_then s last at k f ≡ item_then s last at k g
-step-more s last at f g (BindingRead.Refused r) e h = refl
-step-more s last at f g (BindingRead.Bound b next) e h =
-    ap (λ (w : Walk). cond (below last (name_of s b)) (item_before (item s at b) w) (faulty not_ascending)) (h (name_of s b) next (stands {k = binding_at 3 s at} refl e).goes)
+step-more s last at f g (Err r) e h = refl
+step-more s last at f g (Ok d) e h =
+    ap (λ (w : Walk). cond (below last (name_of s d.binding)) (item_before (item s at d.binding) w) (Err not_ascending)) (h (name_of s d.binding) d.next (stands {k = binding_at 3 s at} refl e).goes)
 
 pub read_whole : ReadWhole
 read_whole s last at zero more h k = from_end s zero last at (omega arith) ∙ sym (from_end s more last at (omega arith))
@@ -187,10 +190,10 @@ module _ (z : Item) where
       place (inl q) = absurd (r.2 y (inl refl) (sym e ∙ sym (ap (λ (w : Item). w.name) q)))
       place (inr i) = i
 
-  sole-equal : (x : Item) (xs : List Item) (y : Item) (ys : List Item) → x.name ≡ y.name → (contrast_of x y).kind ≡ 0 → Sole xs ys (merge xs ys) → Sole (x ∷ xs) (y ∷ ys) (merge xs ys)
+  sole-equal : (x : Item) (xs : List Item) (y : Item) (ys : List Item) → x.name ≡ y.name → is_some (contrast_of x y) ≡ false → Sole xs ys (merge xs ys) → Sole (x ∷ xs) (y ∷ ys) (merge xs ys)
   sole-equal x xs y ys e k f a b = (λ i. both_to x xs y ys e a ((f a.1 b.1).0 i), λ r. (f a.1 b.1).1 (both-from x xs y ys e r))
 
-  sole-other : (x : Item) (xs : List Item) (y : Item) (ys : List Item) → x.name ≡ y.name → (contrast_of x y).kind ≡ 3 → Sole xs ys (merge xs ys)
+  sole-other : (x : Item) (xs : List Item) (y : Item) (ys : List Item) → x.name ≡ y.name → is_some (contrast_of x y) ≡ true → Sole xs ys (merge xs ys)
       → Sole (x ∷ xs) (y ∷ ys) (listed (differing x y) (merge xs ys))
   sole-other x xs y ys e k f a b = (to, λ r. inr ((f a.1 b.1).1 (both-from x xs y ys e r)))
     where
@@ -235,11 +238,11 @@ sets-swap : (name : List ℕ) (tag : ℕ) (us : List ℕ) (tag' : ℕ) (vs : Lis
 unfolding port_sets
 sets-swap name tag us tag' vs = and-swap (short_string tag (length us)) (short_string tag' (length vs)) (ports_column name)
 
-kind-swap : (x y : Item) → x.name ≡ y.name → (contrast_of y x).kind ≡ (contrast_of x y).kind
-kind-swap x y e =
-    kind_is y.name y.tag y.content x.tag x.content
+differ-swap : (x y : Item) → x.name ≡ y.name → is_some (contrast_of y x) ≡ is_some (contrast_of x y)
+differ-swap x y e =
+    differ-is y.name y.tag y.content x.tag x.content
     ∙ rw (← e, sets-swap x.name y.tag y.content x.tag x.content, eqb_swap (set_of y.content) (set_of x.content), eqb_swap y.tag x.tag, same-swap y.content x.content)
-    (sym (kind_is x.name x.tag x.content y.tag y.content))
+    (sym (differ-is x.name x.tag x.content y.tag y.content))
 
 same_back : (x y : Item) (xs ys : List Item) → x.name ≡ y.name → merge (y ∷ ys) (x ∷ xs) ≡ listed_if y x (merge ys xs)
 same_back x y xs ys e = merge-same y ys x xs (rw e (related_same y.name))
@@ -253,8 +256,8 @@ exchanged =
     (λ ys. merge-alone ys)
     (λ x xs. merge_none (x ∷ xs))
     (λ x xs y ys h f. merge-above y ys x xs (related-above y.name x.name h) ∙ ap (listed (only_device x)) f)
-    (λ x xs y ys e k f. let q : (contrast_of y x).kind ≡ 0 = kind-swap x y e ∙ k in same_back x y xs ys e ∙ rw q f)
-    (λ x xs y ys e k f. let q : (contrast_of y x).kind ≡ 3 = kind-swap x y e ∙ k in same_back x y xs ys e ∙ rw q (ap (listed (differing y x)) f))
+    (λ x xs y ys e k f. let q : is_some (contrast_of y x) ≡ false = differ-swap x y e ∙ k in same_back x y xs ys e ∙ rw q f)
+    (λ x xs y ys e k f. let q : is_some (contrast_of y x) ≡ true = differ-swap x y e ∙ k in same_back x y xs ys e ∙ rw q (ap (listed (differing y x)) f))
     (λ x xs y ys h f. merge-below y ys x xs (related-below y.name x.name h) ∙ ap (listed (only_reference y)) f)
 
 -- an exchanged list has as many entries, and the totals of one side only exchanged
@@ -336,11 +339,11 @@ refusal-keeps s t list = go (walk_of s) (walk_of t)
   where
     go : (u v : Walk)
         → Keeps list
-        (walk_then u (λ r. refused_with r.number 1 r.at list)
-        (λ xs. walk_then v (λ r. refused_with r.number 2 r.at list) (λ ys. listed_in s t list (merge xs ys))))
-    go (faulty r) v = inr refl
-    go (whole xs) (faulty r) = inr refl
-    go (whole xs) (whole ys) = listed-keeps s t list (merge xs ys)
+        (walk_then u (λ r. refused_with (number_of r.reason) 1 r.at list)
+        (λ xs. walk_then v (λ r. refused_with (number_of r.reason) 2 r.at list) (λ ys. listed_in s t list (merge xs ys))))
+    go (Err r) v = inr refl
+    go (Ok xs) (Err r) = inr refl
+    go (Ok xs) (Ok ys) = listed-keeps s t list (merge xs ys)
 
 swap-in : (z : Item) (es : List Entry) → In (only_device z) es → In (only_reference z) (map swap_entry es)
 swap-in z [] i = absurd i
@@ -365,18 +368,18 @@ only-in-device xs ys a b z =
     (λ i. r.0 (swap-in z (merge xs ys).entries i), λ q. swap-out z (merge xs ys).entries (r.1 q))
 
 -- equal walks
-contrast-self : (x : Item) → (contrast_of x x).kind ≡ 0
+contrast-self : (x : Item) → is_some (contrast_of x x) ≡ false
 contrast-self x =
-    kind_is x.name x.tag x.content x.tag x.content
+    differ-is x.name x.tag x.content x.tag x.content
     ∙ rw (eq-eqb (set_of x.content) (set_of x.content) refl, eq-eqb x.tag x.tag refl, same_refl x.content) (go (port_sets x.name x.tag x.content x.tag x.content))
   where
-    go : (p : Bool) → kind_by p true true ≡ 0
+    go : (p : Bool) → differ_by p true true ≡ false
     go true = refl
     go false = refl
 
 merge-self : (xs : List Item) → merge xs xs ≡ merged [] [] []
 merge-self [] = merge_none []
-merge-self (x ∷ xs) = let k : (contrast_of x x).kind ≡ 0 = contrast-self x in merge-same x xs x xs (related_same x.name) ∙ rw k (merge-self xs)
+merge-self (x ∷ xs) = let k : is_some (contrast_of x x) ≡ false = contrast-self x in merge-same x xs x xs (related_same x.name) ∙ rw k (merge-self xs)
 
 pub equal-walks : EqualWalks
 unfolding compared listed_in tailed
@@ -387,20 +390,20 @@ equal-walks s list xs e =
 -- port sets
 pub ports-differ : PortsDiffer
 ports-differ name tag us tag' vs h o q =
-    rw (kind_is name tag us tag' vs, h) (go (eqb (set_of us) (set_of vs)) refl)
+    rw (differ-is name tag us tag' vs, h) (go (eqb (set_of us) (set_of vs)) refl)
   where
-    go : (t : Bool) → eqb (set_of us) (set_of vs) ≡ t → (kind_by true t (eqb tag tag' && same us vs) ≡ 0) ↔ ((p : ℕ) → member 64 (set_of us) p ≡ member 64 (set_of vs) p)
+    go : (t : Bool) → eqb (set_of us) (set_of vs) ≡ t → (differ_by true t (eqb tag tag' && same us vs) ≡ false) ↔ ((p : ℕ) → member 64 (set_of us) p ≡ member 64 (set_of vs) p)
     go true e = (λ _ p. ap (λ (n : ℕ). member 64 n p) (eqb-true (set_of us) (set_of vs) e), λ _. refl)
-    go false e = (λ k. absurd (let z : ⊥ = omega arith in z), λ m. absurd (eqb-false (set_of us) (set_of vs) e (members-same 64 (set_of us) (set_of vs) (set-lt us o) (set-lt vs q) m)))
+    go false e = (λ k. absurd (false≢true (sym k)), λ m. absurd (eqb-false (set_of us) (set_of vs) e (members-same 64 (set_of us) (set_of vs) (set-lt us o) (set-lt vs q) m)))
 
 pub others-differ : OthersDiffer
-others-differ name tag us tag' vs h = rw (kind_is name tag us tag' vs, h) (go (eqb tag tag') refl (same us vs) refl)
+others-differ name tag us tag' vs h = rw (differ-is name tag us tag' vs, h) (go (eqb tag tag') refl (same us vs) refl)
   where
-    go : (t : Bool) → eqb tag tag' ≡ t → (u : Bool) → same us vs ≡ u → (kind_by false (eqb (set_of us) (set_of vs)) (t && u) ≡ 0) ↔ ((tag ≡ tag') × (us ≡ vs))
+    go : (t : Bool) → eqb tag tag' ≡ t → (u : Bool) → same us vs ≡ u → (differ_by false (eqb (set_of us) (set_of vs)) (t && u) ≡ false) ↔ ((tag ≡ tag') × (us ≡ vs))
     go true e true f = (λ _. (eqb-true tag tag' e, same-eq us vs f), λ _. refl)
     go true e false f =
-        (λ k. absurd (let z : ⊥ = omega arith in z), λ q. absurd (false≢true (sym f ∙ ap (same us) (sym q.1) ∙ same_refl us)))
-    go false e u f = (λ k. absurd (let z : ⊥ = omega arith in z), λ q. absurd (eqb-false tag tag' e q.0))
+        (λ k. absurd (false≢true (sym k)), λ q. absurd (false≢true (sym f ∙ ap (same us) (sym q.1) ∙ same_refl us)))
+    go false e u f = (λ k. absurd (false≢true (sym k)), λ q. absurd (eqb-false tag tag' e q.0))
 
 pub missing-octets : MissingOctets
 missing-octets us n = set-zeros us n
@@ -427,7 +430,7 @@ under-ports-column name = (to (place_of name) refl, from)
 -- an instance of both walks
 module _ (x y : Item) where
   abbrev Shared : List Item → List Item → Type 0
-  Shared xs ys = In x xs × In y ys × (x.name ≡ y.name) × ((contrast_of x y).kind ≡ 3)
+  Shared xs ys = In x xs × In y ys × (x.name ≡ y.name) × (is_some (contrast_of x y) ≡ true)
 
   abbrev Met : List Item → List Item → Merged → Type 0
   Met xs ys m = Ascending (names xs) → Ascending (names ys) → In (differing x y) m.entries ↔ Shared xs ys
@@ -467,16 +470,16 @@ module _ (x y : Item) where
       place (inr i) (inl q) = absurd (not-above u.name us a.0 x i (r.2 ∙ ap (λ (w : Item). w.name) q ∙ sym e))
       place (inr i) (inr j) = inr (i, j, r.2, r.3)
 
-  met-equal : (u : Item) (us : List Item) (v : Item) (vs : List Item) → u.name ≡ v.name → (contrast_of u v).kind ≡ 0 → Met us vs (merge us vs) → Met (u ∷ us) (v ∷ vs) (merge us vs)
+  met-equal : (u : Item) (us : List Item) (v : Item) (vs : List Item) → u.name ≡ v.name → is_some (contrast_of u v) ≡ false → Met us vs (merge us vs) → Met (u ∷ us) (v ∷ vs) (merge us vs)
   met-equal u us v vs e k f a b = (λ i. let r = (f a.1 b.1).0 i in (inr r.0, inr r.1, r.2, r.3), λ r. from r (later u us v vs e a b r))
     where
       from : Shared (u ∷ us) (v ∷ vs) → ((x ≡ u) × (y ≡ v)) ⊎ Shared us vs → In (differing x y) (merge us vs).entries
       from r (inl q) =
-          let z : (contrast_of u v).kind ≡ 3 = subst (λ (w : Item). (contrast_of w v).kind ≡ 3) q.0 (subst (λ (w : Item). (contrast_of x w).kind ≡ 3) q.1 r.3) in
-          absurd (let o : ⊥ = omega arith in o)
+          let z : is_some (contrast_of u v) ≡ true = subst (λ (w : Item). is_some (contrast_of w v) ≡ true) q.0 (subst (λ (w : Item). is_some (contrast_of x w) ≡ true) q.1 r.3) in
+          absurd (false≢true (sym k ∙ z))
       from r (inr t) = (f a.1 b.1).1 t
 
-  met-other : (u : Item) (us : List Item) (v : Item) (vs : List Item) → u.name ≡ v.name → (contrast_of u v).kind ≡ 3 → Met us vs (merge us vs)
+  met-other : (u : Item) (us : List Item) (v : Item) (vs : List Item) → u.name ≡ v.name → is_some (contrast_of u v) ≡ true → Met us vs (merge us vs)
       → Met (u ∷ us) (v ∷ vs) (listed (differing u v) (merge us vs))
   met-other u us v vs e k f a b = (to, λ r. from (later u us v vs e a b r))
     where

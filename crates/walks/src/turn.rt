@@ -1,21 +1,24 @@
 // One turn of the comparison: a binding of each walk.
-ghost use Rattle.std.specs.Prelude.{◌≡◌, ◌+◌, ◌≤◌, cond, eqb, length};
+ghost use Rattle.std.specs.Prelude.{◌≡◌, ◌+◌, ◌≤◌, length};
 ghost use Rattle.octets.specs.Parts.{patch};
 ghost use Rattle.walks.specs.Walk.{item};
-ghost use Rattle.walks.specs.Turn.{turned, turn_of, turn_at, no_turn, turn_octets};
+ghost use Rattle.walks.specs.Merge.{twenty};
+ghost use Rattle.walks.specs.Turn.{differing, turn_of, turn_at, found_octets};
 
-use super::contrast::{NO_ENTRY, contrasts};
+use super::contrast::{Contrast, NO_PORTS, contrasts};
 use identifiers::order::relate;
 use message::kinds::SET;
-use message::request::{Binding, BindingRead, binding_at};
-use names::order::Relation;
+use message::request::{Bound, binding_at};
 use octets::numbers::put;
 use octets::parts::copy_in;
+use std::cmp::Ordering;
 
-// The kinds of an entry of one side.
-pub const REFERENCE_ONLY: u8 = 1;
+// The kinds of an entry, as its first octet tells them.
+const REFERENCE_ONLY: u8 = 1;
 
-pub const DEVICE_ONLY: u8 = 2;
+const DEVICE_ONLY: u8 = 2;
+
+const DIFFERING: u8 = 3;
 
 // The octets of an entry, and where the two offsets stand in it.
 pub const ENTRY: usize = 20;
@@ -24,119 +27,117 @@ const REFERENCE_AT: usize = 4;
 
 const DEVICE_AT: usize = 12;
 
-// The entry that is found, kind 0 for none, and where the reference's and the device's walk go on.
-#[derive(Clone, Copy, Drop)]
+// An instance that is listed, with the offset of its binding in each walk that has it.
+#[derive(Clone, Copy, Debug, PartialEq, Eq)]
+pub enum Found {
+    ReferenceOnly(usize),
+    DeviceOnly(usize),
+    Differing {
+        contrast: Contrast,
+        reference: usize,
+        device: usize,
+    },
+}
+
+// What is found at a binding of each walk, and where the reference's and the device's walk go on.
+#[derive(Clone, Copy, Debug, PartialEq, Eq)]
 pub struct Turn {
-    pub kind: u8,
-    pub ours: u8,
-    pub theirs: u8,
-    pub first: u8,
-    pub reference: usize,
-    pub device: usize,
+    pub found: Option<Found>,
     pub next: usize,
     pub other: usize,
 }
 
-// A turn without a port set.
-fn one_sided(kind: u8, reference: usize, device: usize, next: usize, other: usize) -> Turn
-    ensures { result ≡ turned kind 0 0 0 reference device next other }
+// What is found at bindings of one instance.
+fn differing(c: Option<Contrast>, reference: usize, device: usize) -> Option<Found>
+    ensures { result ≡ differing c reference device }
 {
-    Turn {
-        kind: kind,
-        ours: 0,
-        theirs: 0,
-        first: 0,
-        reference: reference,
-        device: device,
-        next: next,
-        other: other,
-    }
-}
-
-fn no_turn(s: &[u8], t: &[u8]) -> Turn
-    ensures { result ≡ no_turn s.now t.now }
-{
-    one_sided(NO_ENTRY, 0, 0, s.len(), t.len())
+    c.map(|contrast| Found::Differing {
+        contrast,
+        reference,
+        device,
+    })
 }
 
 // The turn at binding a, which starts at i, and binding b, which starts at j.
-fn turn_of(
-    s: &[u8],
-    i: usize,
-    a: Binding,
-    next: usize,
-    t: &[u8],
-    j: usize,
-    b: Binding,
-    other: usize,
-) -> Turn
-    requires { (a.name + a.size ≤ length s.now) × (a.content + a.len ≤ length s.now) × (b.name + b.size ≤ length t.now) × (b.content + b.len ≤ length t.now) }
-    ensures { result ≡ turn_of (item s.now i a) next (item t.now j b) other }
+fn turn_of(s: &[u8], i: usize, a: Bound, t: &[u8], j: usize, b: Bound) -> Turn
+    requires { (a.binding.name + a.binding.size ≤ length s.now) × (a.binding.content + a.binding.len ≤ length s.now) × (b.binding.name + b.binding.size ≤ length t.now) × (b.binding.content + b.binding.len ≤ length t.now) }
+    ensures { result ≡ turn_of (item s.now i a.binding) a.next (item t.now j b.binding) b.next }
 {
-    let n = a.name;
-    let m = b.name;
-    let p = n + a.size;
-    let q = m + b.size;
+    let x = a.binding;
+    let y = b.binding;
+    let n = x.name;
+    let m = y.name;
+    let p = n + x.size;
+    let q = m + y.size;
     match relate(&s[n..p], &t[m..q]) {
-        Relation::Lower => one_sided(REFERENCE_ONLY, i, 0, next, j),
-        Relation::Same => {
-            let k = a.content;
-            let l = b.content;
-            let u = k + a.len;
-            let v = l + b.len;
-            let c = contrasts(&s[n..p], a.tag, &s[k..u], b.tag, &t[l..v]);
+        Ordering::Less => Turn {
+            found: Some(Found::ReferenceOnly(i)),
+            next: a.next,
+            other: j,
+        },
+        Ordering::Equal => {
+            let k = x.content;
+            let l = y.content;
+            let u = k + x.len;
+            let v = l + y.len;
+            let c = contrasts(&s[n..p], x.tag, &s[k..u], y.tag, &t[l..v]);
             Turn {
-                kind: c.kind,
-                ours: c.ours,
-                theirs: c.theirs,
-                first: c.first,
-                reference: i,
-                device: j,
-                next: next,
-                other: other,
+                found: differing(c, i, j),
+                next: a.next,
+                other: b.next,
             }
         }
-        Relation::Higher => one_sided(DEVICE_ONLY, 0, j, i, other),
-    }
-}
-
-// The turn at offset i of the reference's walk and offset j of the device's.
-pub fn turn_at(s: &[u8], i: usize, t: &[u8], j: usize) -> Turn
-    ensures { result ≡ turn_at s.now i t.now j }
-{
-    match binding_at(SET, s, i) {
-        BindingRead::Refused(_) => no_turn(s, t),
-        BindingRead::Bound { binding, next } => match binding_at(SET, t, j) {
-            BindingRead::Refused(_) => no_turn(s, t),
-            BindingRead::Bound {
-                binding: second,
-                next: other,
-            } => turn_of(s, i, binding, next, t, j, second, other),
+        Ordering::Greater => Turn {
+            found: Some(Found::DeviceOnly(j)),
+            next: i,
+            other: b.next,
         },
     }
 }
 
-// 1 where the kinds are equal, else 0.
-pub fn is_kind(kind: u8, k: u8) -> usize
-    ensures { result ≡ cond (eqb kind k) 1 0 }
+// The turn at offset i of the reference's walk and offset j of the device's; none where one of them has no binding left.
+pub fn turn_at(s: &[u8], i: usize, t: &[u8], j: usize) -> Option<Turn>
+    ensures { result ≡ turn_at s.now i t.now j }
 {
-    if kind == k {
-        return 1;
-    }
-    0
+    let a = binding_at(SET, s, i).ok()?;
+    let b = binding_at(SET, t, j).ok()?;
+    Some(turn_of(s, i, a, t, j, b))
 }
 
-// Puts the entry of a turn, if there is one, into the list from index at on, and tells where the next one goes.
-pub fn put_entry(list: &mut [u8], at: usize, t: Turn) -> usize
-    requires { at + length (turn_octets t) ≤ length list.old }
-    ensures { (result ≡ at + length (turn_octets t)) × (list.new ≡ patch list.old at (turn_octets t)) }
+// Puts one entry into the list from index at on, and tells where the next one goes.
+fn put_twenty(
+    list: &mut [u8],
+    at: usize,
+    kind: u8,
+    c: Contrast,
+    reference: usize,
+    device: usize,
+) -> usize
+    requires { at + 20 ≤ length list.old }
+    ensures { (result ≡ at + 20) × (list.new ≡ patch list.old at (twenty kind c.ours c.theirs c.first reference device)) }
 {
-    if t.kind == NO_ENTRY {
-        return at;
-    }
-    let head = [t.kind, t.ours, t.theirs, t.first];
+    let head = [kind, c.ours, c.theirs, c.first];
     copy_in(list, at, &head);
-    put(list, at + REFERENCE_AT, 8, t.reference as u64);
-    put(list, at + DEVICE_AT, 8, t.device as u64);
+    put(list, at + REFERENCE_AT, 8, reference as u64);
+    put(list, at + DEVICE_AT, 8, device as u64);
     at + ENTRY
+}
+
+// Puts the entry of what a turn finds, if there is one, into the list from index at on, and tells where the next one goes.
+pub(crate) fn put_entry(list: &mut [u8], at: usize, found: Option<Found>) -> usize
+    requires { at + length (found_octets found) ≤ length list.old }
+    ensures { (result ≡ at + length (found_octets found)) × (list.new ≡ patch list.old at (found_octets found)) }
+{
+    let Some(entry) = found else {
+        return at;
+    };
+    match entry {
+        Found::ReferenceOnly(i) => put_twenty(list, at, REFERENCE_ONLY, NO_PORTS, i, 0),
+        Found::DeviceOnly(j) => put_twenty(list, at, DEVICE_ONLY, NO_PORTS, 0, j),
+        Found::Differing {
+            contrast,
+            reference,
+            device,
+        } => put_twenty(list, at, DIFFERING, contrast, reference, device),
+    }
 }

@@ -8,17 +8,8 @@ ghost use Rattle.walks.specs.Walk.{walk_of, walk_judged};
 use identifiers::order::relate;
 use message::form::Refusal;
 use message::kinds::SET;
-use message::request::{BindingRead, binding_at};
-use names::order::Relation;
-
-pub const NOT_ASCENDING: u8 = 24;
-
-// Whether a walk can be read, and else its first refusal.
-#[derive(Drop)]
-pub enum WalkJudged {
-    Refused(Refusal),
-    Whole,
-}
+use message::refusals::Reason;
+use message::request::binding_at;
 
 // Whether the name of n octets from a is below that of m octets from b.
 fn ascends(s: &[u8], a: usize, n: usize, b: usize, m: usize) -> bool
@@ -27,14 +18,11 @@ fn ascends(s: &[u8], a: usize, n: usize, b: usize, m: usize) -> bool
 {
     let c = a + n;
     let d = b + m;
-    match relate(&s[a..c], &s[b..d]) {
-        Relation::Lower => true,
-        Relation::Same => false,
-        Relation::Higher => false,
-    }
+    relate(&s[a..c], &s[b..d]).is_lt()
 }
 
-pub fn judge(s: &[u8]) -> WalkJudged
+// Whether a walk can be read, and else its first refusal.
+pub fn judge(s: &[u8]) -> Result<(), Refusal>
     ensures { result ≡ walk_judged (walk_of s.now) }
 {
     let mut at: usize = 0;
@@ -43,22 +31,17 @@ pub fn judge(s: &[u8]) -> WalkJudged
     let mut size: usize = 0;
     while at < s.len() {
         // A walk's contents are those of a set.
-        match binding_at(SET, s, at) {
-            BindingRead::Refused(r) => {
-                return WalkJudged::Refused(r);
-            }
-            BindingRead::Bound { binding, next } => {
-                if !ascends(s, name, size, binding.name, binding.size) {
-                    return WalkJudged::Refused(Refusal {
-                        number: NOT_ASCENDING,
-                        at: 0,
-                    });
-                }
-                name = binding.name;
-                size = binding.size;
-                at = next;
-            }
+        let read = binding_at(SET, s, at)?;
+        let binding = read.binding;
+        if !ascends(s, name, size, binding.name, binding.size) {
+            return Err(Refusal {
+                reason: Reason::NotAscending,
+                at: 0,
+            });
         }
+        name = binding.name;
+        size = binding.size;
+        at = read.next;
     }
-    WalkJudged::Whole
+    Ok(())
 }

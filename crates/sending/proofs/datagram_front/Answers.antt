@@ -13,10 +13,10 @@ header-fits : (q p len : ℕ) → q + length (header_form 0x04 len) ≡ p → p 
 header-fits q p len e = omega (arith, header-most 0x04 len)
 
 pub version_field-v-requires : goal.version_field-v-requires
-version_field-v-requires c = omega (arith, header-fits _ _ _ c.header_before-c.ensures.0)
+version_field-v-requires c = omega (arith, header-fits _ _ _ c.header_before-c.ensures.starts)
 
 pub header_before-requires : goal.header_before-requires
-header_before-requires c = omega (arith, header-fits _ _ _ c.header_before-c.ensures.0, c.version_field-v.ensures.0.starts)
+header_before-requires c = omega (arith, header-fits _ _ _ c.header_before-c.ensures.starts, c.version_field-v.ensures.0.starts)
 
 pub returns : goal.returns
 returns c =
@@ -26,5 +26,5 @@ returns c =
     let v = c.version_field-v in
     let r = c.header_before.ensures in (
       datagram-front-put _ _ _ w.1 h v.ensures.0 r,
-      omega (arith, h.0, header-most 0x04 a.community, v.ensures.1, r.0, header-most 0x30 (a.p - v.result + (a.community + a.rest))),
+      omega (arith, h.starts, header-most 0x04 a.community, v.ensures.1, r.starts, header-most 0x30 (a.p - v.result + (a.community + a.rest))),
     )

@@ -10,7 +10,7 @@ pub going_before-requires : goal.going_before-requires
 going_before-requires c = omega (arith, length-set c.args.out.now (c.args.p - 1) (c.args.n % 128))
 
 pub shape_of-out : goal.shape_of-out
-shape_of-out c = put-length _ _ _ _ c.going_before.ensures.0 (omega (arith, length-set c.args.out.now (c.args.p - 1) (c.args.n % 128))) c.going_before.ensures.1 ∙ length-set c.args.out.now (c.args.p - 1) (c.args.n % 128)
+shape_of-out c = put-length _ _ _ _ c.going_before.ensures.starts (omega (arith, length-set c.args.out.now (c.args.p - 1) (c.args.n % 128))) c.going_before.ensures.filled ∙ length-set c.args.out.now (c.args.p - 1) (c.args.n % 128)
 
 pub returns : goal.returns
-returns c = base128-put _ _ _ _ (omega arith) (omega arith) c.going_before.ensures.0 c.going_before.ensures.1
+returns c = base128-put _ _ _ _ (omega arith) (omega arith) c.going_before.ensures

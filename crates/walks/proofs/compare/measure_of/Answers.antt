@@ -1,33 +1,22 @@
 use native.Mathlib.Omega.{arith}
+use mathlib.Core.Path.{sym, ◌∙◌}
 use Rattle.walks.proofs.TurnLaws.{along-turn}
-use Rattle.walks.proofs.PassLaws.{measuring-start, measuring-more, measuring-end}
+use Rattle.walks.proofs.PassLaws.{measuring-start, measuring-room, measuring-more, measuring-end}
 use Rattle.walks.proofs.compare.measure_of.Goals as goal
 
-pub loop-i-init : goal.loop-i-init
-loop-i-init c = measuring-start _ _ c.requires.0 c.requires.1
+pub loop-u-init : goal.loop-u-init
+loop-u-init c = measuring-start _ _ c.requires.0 c.requires.1
 
-pub overflow_add-reference : goal.overflow_add-reference
-overflow_add-reference c =
-    let v = along-turn c.loop-i.invariant.along c.loop-i-test.true c.turn_at-u.ensures in
-    omega (arith, v.ones, v.far, v.one_left.inside, c.is_kind-reference.ensures, c.loop-i.invariant.far)
+pub counted-totals-requires : goal.counted-totals-requires
+counted-totals-requires c = let r = measuring-room c.loop-u.invariant in (omega (arith, r.0), omega (arith, r.1), omega (arith, r.2))
 
-pub overflow_add-device : goal.overflow_add-device
-overflow_add-device c =
-    let v = along-turn c.loop-i.invariant.along c.loop-i-test.true c.turn_at-u.ensures in
-    omega (arith, v.twos, v.near, v.two-left.inside, c.is_kind-device.ensures, c.loop-i.invariant.near)
-
-pub overflow_add-differing : goal.overflow_add-differing
-overflow_add-differing c =
-    let v = along-turn c.loop-i.invariant.along c.loop-i-test.true c.turn_at-u.ensures in
-    omega (arith, v.threes, v.far, v.one_left.inside, c.is_kind-differing.ensures, c.loop-i.invariant.far)
-
-pub loop-i-smaller : goal.loop-i-smaller
-loop-i-smaller c =
-    let v = along-turn c.loop-i.invariant.along c.loop-i-test.true c.turn_at-u.ensures in
+pub loop-u-smaller : goal.loop-u-smaller
+loop-u-smaller c =
+    let v = along-turn c.loop-u.invariant.along (sym c.turn_at.ensures ∙ c.in-Some.is) in
     omega (arith, v.moves, v.one_left.inside, v.two-left.inside)
 
-pub loop-i-preserved : goal.loop-i-preserved
-loop-i-preserved c = measuring-more c.loop-i.invariant (along-turn c.loop-i.invariant.along c.loop-i-test.true c.turn_at-u.ensures) c.is_kind-reference.ensures c.is_kind-device.ensures c.is_kind-differing.ensures
+pub loop-u-preserved : goal.loop-u-preserved
+loop-u-preserved c = measuring-more c.loop-u.invariant (along-turn c.loop-u.invariant.along (sym c.turn_at.ensures ∙ c.in-Some.is)) c.counted-totals.ensures
 
 pub returns : goal.returns
-returns c = measuring-end c.loop-i.invariant c.loop-i-test.false
+returns c = measuring-end c.loop-u.invariant (sym c.turn_at.ensures ∙ c.in_default.is)

@@ -4,8 +4,8 @@ use lib.ListN.{length}
 use Rattle.walks.proofs.PassLaws.{Measuring}
 use Rattle.walks.proofs.compare.measure_of.Given as goal
 
-abbrev pub invariant-loop-i : goal.invariant-loop-i
-invariant-loop-i l = Measuring l.s l.t l.reference l.device l.differing l.i l.j
+abbrev pub invariant-loop-u : goal.invariant-loop-u
+invariant-loop-u l = Measuring l.s l.t l.totals l.i l.j
 
-abbrev pub decreases-loop-i : goal.decreases-loop-i
-decreases-loop-i l = length l.s + length l.t - (l.i + l.j)
+abbrev pub decreases-loop-u : goal.decreases-loop-u
+decreases-loop-u l = length l.s + length l.t - (l.i + l.j)

@@ -1,24 +1,26 @@
 use native.Mathlib.Omega.{arith}
+use mathlib.Core.Path.{sym, ◌∙◌}
 use Rattle.walks.proofs.TurnLaws.{along-turn}
 use Rattle.walks.proofs.PassLaws.{writing_start, writing-room, writing_more, writing-end}
 use Rattle.walks.proofs.compare.put_list.Goals as goal
 
-pub loop-i-init : goal.loop-i-init
-loop-i-init c = writing_start _ _ _ c.requires.0 c.requires.1
+pub loop-u-init : goal.loop-u-init
+loop-u-init c = writing_start _ _ _ c.requires.0 c.requires.1
 
 pub put_entry-at-requires : goal.put_entry-at-requires
-put_entry-at-requires c = writing-room c.loop-i.invariant c.requires.2 (along-turn c.loop-i.invariant.along c.loop-i-test.true c.turn_at-u.ensures)
+put_entry-at-requires c = writing-room c.loop-u.invariant c.requires.2 (along-turn c.loop-u.invariant.along (sym c.turn_at.ensures ∙ c.in-Some.is))
 
-pub loop-i-smaller : goal.loop-i-smaller
-loop-i-smaller c =
-    let v = along-turn c.loop-i.invariant.along c.loop-i-test.true c.turn_at-u.ensures in
+pub loop-u-smaller : goal.loop-u-smaller
+loop-u-smaller c =
+    let v = along-turn c.loop-u.invariant.along (sym c.turn_at.ensures ∙ c.in-Some.is) in
     omega (arith, v.moves, v.one_left.inside, v.two-left.inside)
 
-pub loop-i-preserved : goal.loop-i-preserved
-loop-i-preserved c = writing_more c.loop-i.invariant c.requires.2 (along-turn c.loop-i.invariant.along c.loop-i-test.true c.turn_at-u.ensures) c.put_entry-at.ensures.0 c.put_entry-at.ensures.1
+pub loop-u-preserved : goal.loop-u-preserved
+loop-u-preserved c =
+    writing_more c.loop-u.invariant c.requires.2 (along-turn c.loop-u.invariant.along (sym c.turn_at.ensures ∙ c.in-Some.is)) c.put_entry-at.ensures.0 c.put_entry-at.ensures.1
 
 pub shape_of-list : goal.shape_of-list
-shape_of-list c = c.loop-i.invariant.kept
+shape_of-list c = c.loop-u.invariant.kept
 
 pub returns : goal.returns
-returns c = writing-end c.loop-i.invariant c.requires.2 c.loop-i-test.false
+returns c = writing-end c.loop-u.invariant c.requires.2 (sym c.turn_at.ensures ∙ c.in_default.is)

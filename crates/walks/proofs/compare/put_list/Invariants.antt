@@ -4,8 +4,8 @@ use lib.ListN.{length}
 use Rattle.walks.proofs.PassLaws.{Writing}
 use Rattle.walks.proofs.compare.put_list.Given as goal
 
-abbrev pub invariant-loop-i : goal.invariant-loop-i
-invariant-loop-i l = Writing l.s l.t l.initial.list l.list l.at l.i l.j
+abbrev pub invariant-loop-u : goal.invariant-loop-u
+invariant-loop-u l = Writing l.s l.t l.initial.list l.list l.at l.i l.j
 
-abbrev pub decreases-loop-i : goal.decreases-loop-i
-decreases-loop-i l = length l.s + length l.t - (l.i + l.j)
+abbrev pub decreases-loop-u : goal.decreases-loop-u
+decreases-loop-u l = length l.s + length l.t - (l.i + l.j)

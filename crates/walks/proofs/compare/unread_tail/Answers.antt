@@ -1,15 +1,14 @@
 -- `walks::compare::unread_tail` meets its contract. Assumes nothing.
-use borrow.Author.Tests.{eq-eqb, ne_eqb}
 use Rattle.walks.proofs.compare.unread_tail.Goals as goal
 
 pub slice_bounds-result-end : goal.slice_bounds-result-end
-slice_bounds-result-end c = rw (eq-eqb _ 2 c.if-c-eq-DEVICE.true) at c.requires.within
+slice_bounds-result-end c = rw c.in-Reference.is at c.requires.within
 
-pub returns-then-c-eq-DEVICE : goal.returns-then-c-eq-DEVICE
-returns-then-c-eq-DEVICE c = rw (eq-eqb _ 2 c.if-c-eq-DEVICE.true)
+pub returns-in-Reference : goal.returns-in-Reference
+returns-in-Reference c = rw c.in-Reference.is
 
-pub slice_bounds-result-end-2 : goal.slice_bounds-result-end-2
-slice_bounds-result-end-2 c = rw (ne_eqb _ 2 c.if-c-eq-DEVICE.false) at c.requires.within
+pub slice_bounds-result-end-in-Device : goal.slice_bounds-result-end-in-Device
+slice_bounds-result-end-in-Device c = rw c.in-Device.is at c.requires.within
 
-pub returns : goal.returns
-returns c = rw (ne_eqb _ 2 c.if-c-eq-DEVICE.false)
+pub returns-in-Device : goal.returns-in-Device
+returns-in-Device c = rw c.in-Device.is

@@ -1,37 +1,26 @@
--- `walks::turn::put_entry` meets its contract: four octets and two numbers, one behind the other, are one patch. Assumes nothing.
-use mathlib.Core.Path.{sym, ap, ◌∙◌}
+-- `walks::turn::put_entry` meets its contract. Assumes nothing.
 use native.Mathlib.Omega.{arith}
-use lib.ListN.{length}
-use Rattle.octets.specs.Parts.{patch}
 use Rattle.octets.proofs.PartLaws.{patch-none}
-use Rattle.walks.proofs.CodeLaws.{no-entry, entry-size, entry-put}
+use Rattle.walks.proofs.CodeLaws.{found-size}
 use Rattle.walks.proofs.turn.put_entry.Goals as goal
 
-pub returns-then-t-eq-NO_ENTRY : goal.returns-then-t-eq-NO_ENTRY
-returns-then-t-eq-NO_ENTRY c =
-    let a = c.args in
-    let e = no-entry a.t c.if-t-eq-NO_ENTRY.true in
-    (omega (arith, ap length e), patch-none a.list.now a.at ∙ sym (ap (patch a.list.now a.at) e))
+pub put_twenty-requires : goal.put_twenty-requires
+put_twenty-requires c = omega (arith, found-size _ c.in-Some.is, c.requires)
 
-pub copy_in-requires : goal.copy_in-requires
-copy_in-requires c = omega (arith, entry-size c.args.t c.if-t-eq-NO_ENTRY.false)
+pub put_twenty-requires-in-DeviceOnly : goal.put_twenty-requires-in-DeviceOnly
+put_twenty-requires-in-DeviceOnly c = omega (arith, found-size _ c.in-Some.is, c.requires)
 
-pub overflow_add-at : goal.overflow_add-at
-overflow_add-at c = omega (arith, entry-size c.args.t c.if-t-eq-NO_ENTRY.false)
+pub put_twenty-requires-in-Differing : goal.put_twenty-requires-in-Differing
+put_twenty-requires-in-Differing c = omega (arith, found-size _ c.in-Some.is, c.requires)
 
-pub put-requires : goal.put-requires
-put-requires c = omega (arith, entry-size c.args.t c.if-t-eq-NO_ENTRY.false)
+pub returns-in_default : goal.returns-in_default
+returns-in_default c = rw c.in_default.is (omega arith, patch-none c.args.list.now c.args.at)
 
-pub overflow_add-at-2 : goal.overflow_add-at-2
-overflow_add-at-2 c = omega (arith, entry-size c.args.t c.if-t-eq-NO_ENTRY.false)
+pub returns-in-ReferenceOnly : goal.returns-in-ReferenceOnly
+returns-in-ReferenceOnly c = let e = c.put_twenty.ensures in (omega (arith, e.0, found-size _ c.in-Some.is), rw (c.in-Some.is, c.in-ReferenceOnly.is) e.1)
 
-pub put-requires-2 : goal.put-requires-2
-put-requires-2 c = omega (arith, entry-size c.args.t c.if-t-eq-NO_ENTRY.false)
+pub returns-in-DeviceOnly : goal.returns-in-DeviceOnly
+returns-in-DeviceOnly c = let e = c.put_twenty-in-DeviceOnly.ensures in (omega (arith, e.0, found-size _ c.in-Some.is), rw (c.in-Some.is, c.in-DeviceOnly.is) e.1)
 
-pub overflow_add-result : goal.overflow_add-result
-overflow_add-result c = omega (arith, entry-size c.args.t c.if-t-eq-NO_ENTRY.false)
-
-pub returns : goal.returns
-returns c =
-    let a = c.args in
-    (omega (arith, entry-size a.t c.if-t-eq-NO_ENTRY.false), cc (entry-put a.list.now a.at a.t c.if-t-eq-NO_ENTRY.false c.requires))
+pub returns-in-Differing : goal.returns-in-Differing
+returns-in-Differing c = let e = c.put_twenty-in-Differing.ensures in (omega (arith, e.0, found-size _ c.in-Some.is), rw (c.in-Some.is, c.in-Differing.is) e.1)

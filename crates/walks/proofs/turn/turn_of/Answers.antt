@@ -3,17 +3,17 @@ use mathlib.Core.Path.{◌∙◌}
 use Rattle.walks.proofs.CodeLaws.{turn_below, turn-same, turn-above}
 use Rattle.walks.proofs.turn.turn_of.Goals as goal
 
-pub returns-in-Lower : goal.returns-in-Lower
-returns-in-Lower c =
+pub returns-in-Less : goal.returns-in-Less
+returns-in-Less c =
     let a = c.args in
-    c.one_sided.ensures ∙ turn_below a.s.now a.t.now a.i a.a a.next a.j a.b a.other c.relate.ensures c.in-Lower.is
+    turn_below a.s.now a.t.now a.i a.a a.j a.b c.relate.ensures c.in-Less.is
 
-pub returns-in-Same : goal.returns-in-Same
-returns-in-Same c =
+pub returns-in-Equal : goal.returns-in-Equal
+returns-in-Equal c =
     let a = c.args in
-    turn-same a.s.now a.t.now a.i a.a a.next a.j a.b a.other c.relate.ensures c.in-Same.is c.contrasts-c.ensures
+    (λ q. record { found = c.differing.ensures q; next = a.a.next; other = a.b.next }) ∙ turn-same a.s.now a.t.now a.i a.a a.j a.b c.relate.ensures c.in-Equal.is c.contrasts-c.ensures
 
-pub returns-in-Higher : goal.returns-in-Higher
-returns-in-Higher c =
+pub returns-in-Greater : goal.returns-in-Greater
+returns-in-Greater c =
     let a = c.args in
-    c.one_sided-in-Higher.ensures ∙ turn-above a.s.now a.t.now a.i a.a a.next a.j a.b a.other c.relate.ensures c.in-Higher.is
+    turn-above a.s.now a.t.now a.i a.a a.j a.b c.relate.ensures c.in-Greater.is
