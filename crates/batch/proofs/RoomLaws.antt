@@ -6,36 +6,33 @@ use mathlib.Core.Bool.{Bool, true, false, cond, not, ◌||◌, true≢false}
 use mathlib.Core.Option.{Option, none, some}
 use mathlib.Core.List.{List, [], ◌∷◌, ◌++◌, map}
 use lib.Dec.{eqb}
-use lib.ListN.{length, take, drop, get_or}
+use lib.ListN.{length, drop, get_or}
 use borrow.Author.Tests.{eq-eqb, ne_eqb}
 use Rattle.octets.proofs.BoolLaws.{by_bool}
 use Rattle.block.specs.Image.{content_of}
 use Rattle.block.specs.Valid.{legal}
 use Rattle.block.specs.Lookup.{lookup, keys_of}
 use Rattle.names.specs.declared.model.Model.{Model}
-use Rattle.names.specs.Table.{object_count}
 use Rattle.block.proofs.StandingLaws.{stands}
 use Rattle.block.proofs.RoundLaws.{legal-valid}
 use Rattle.answer.specs.Get.{elem}
 use Rattle.answer.specs.Writes.{present}
 use Rattle.block.specs.Tables.{rows_of}
 use Rattle.block.specs.declared.tables.Table.{Table}
-use Rattle.block.specs.declared.tables.Table.TheVariants.{Vlan as vlan, Static as static, Pair as pair}
 use Rattle.answer.specs.Tables.{first_column}
 use Rattle.answer.proofs.StoredLaws.{elem-present}
 use Rattle.answer.specs.Terms.{onto, absent}
 use Rattle.answer.proofs.KeepValid.{valid-few}
 use Rattle.console.specs.Batch.{octets_at, Means}
 use Rattle.console.specs.declared.frames.Span.{Span}
-use Rattle.console.specs.declared.frames.Framed.{Framed}
+use Rattle.std.specs.Prelude.{Option as Maybe, Some, None, Ok}
 use Rattle.batch.specs.Names.{Group, groups_of, among, common, keys_at, all_named}
-use Rattle.batch.specs.Found.{meant, no_group, groups, Few, named_from, SetsFrom, absent_each}
+use Rattle.batch.specs.Found.{meant, named_from, SetsFrom, absent_each}
 use Rattle.batch.specs.declared.groups.NamedGroup.{NamedGroup}
-use Rattle.batch.specs.declared.groups.NamedGroups.{NamedGroups}
 use Rattle.batch.proofs.NameLaws.{common-of, keys-append}
 use Rattle.batch.proofs.PairLaws.{Named, NoneMeet}
 use Rattle.batch.proofs.TurnLaws.{named-turn, named_end}
-use Rattle.batch.proofs.GroupLaws.{drop-turn, drop-end}
+use Rattle.batch.proofs.GroupLaws.{meant-turn, meant_end}
 
 -- a table of a legal block has at most 256 rows
 pub few-rows : (b : List ℕ) → legal b ≡ true → (t : Table) → length (rows_of t (content_of b)) ≤ 256
@@ -52,58 +49,50 @@ elem-among t k [] = refl
 elem-among t k (none ∷ gs) = elem-among t k gs
 elem-among t k (some g ∷ gs) = by_bool (eqb t g.0) (λ e. rw (e, elem-among t k gs)) (λ e. rw (e, elem-among t k gs))
 
-column-low : (t : Table) → first_column t ≡ object_count → ⊥
-column-low vlan e = omega arith
-column-low static e = omega arith
-column-low pair e = omega arith
-
 -- one binding's share in the absent rows
-module _ {R : Type 0} (es : List (ℕ × R)) (t : Table) (all : List NamedGroup) (n : ℕ) (enough : n ≤ length all) (i : ℕ) (h : i < n) where
-  abbrev a : NamedGroup
-  a = get_or all i no_group
+module _ {R : Type 0} (es : List (ℕ × R)) (t : Table) (behind : List (Maybe NamedGroup)) where
+  abbrev later : List (Option Group)
+  later = map meant behind
 
-  abbrev from : ℕ → List (Option Group)
-  from j = drop j (map meant (take n all))
+  abbrev rest : ℕ
+  rest = absent es (keys_at (first_column t) later)
 
-  abbrev count : ℕ → ℕ
-  count j = absent es (keys_at (first_column t) (from j))
+  abbrev counted : Maybe NamedGroup → ℕ
+  counted g = absent es (keys_at (first_column t) (meant g ∷ later))
 
-  turn : count i ≡ absent es (onto (first_column t) (meant a) (keys_at (first_column t) (from (i + 1))))
+  pub none-named : counted None ≡ cond false 1 0 + rest
   unfolding keys_at
-  turn = ap (λ (l : List (Option Group)). absent es (keys_at (first_column t) l)) (drop-turn meant all n enough i no_group h)
+  none-named = omega arith
 
-  pub other-table : {c : ℕ} → c ≡ first_column t → (a.table ≡ c → ⊥) → count i ≡ cond false 1 0 + count (i + 1)
-  other-table e f =
-      turn ∙ by_bool (eqb a.table object_count) (λ q. rw q (omega arith))
-      (λ q. rw (q, ne_eqb (first_column t) a.table (λ z. f (sym z ∙ sym e))) (omega arith))
+  module _ (a : NamedGroup) {c : ℕ} (e : c ≡ first_column t) where
+    pub other-table : (a.table ≡ c → ⊥) → counted (Some a) ≡ cond false 1 0 + rest
+    unfolding keys_at
+    other-table f = rw (ne_eqb (first_column t) a.table (λ z. f (sym z ∙ sym e))) (omega arith)
 
-  meant_is : {c : ℕ} → c ≡ first_column t → a.table ≡ c → meant a ≡ some (first_column t, a.key)
-  meant_is e f =
-      let z : a.table ≡ first_column t = f ∙ e in
-      rw (ne_eqb a.table object_count (λ q. column-low t (sym z ∙ q))) (ap (λ (k : ℕ). some (k, a.key)) z)
+    module _ (f : a.table ≡ c) where
+      meant_is : meant (Some a) ≡ some (first_column t, a.key)
+      meant_is = ap (λ (k : ℕ). some (k, a.key)) (f ∙ e)
 
-  in-table : {c : ℕ} → c ≡ first_column t → a.table ≡ c
-      → count i ≡ cond (among (meant a) (from (i + 1)) || present (lookup a.key es)) 0 1 + count (i + 1)
-  unfolding absent
-  in-table e f =
-      turn ∙ ap (λ (g : Option Group). absent es (onto (first_column t) g (keys_at (first_column t) (from (i + 1))))) (meant_is e f)
-      ∙ rw (eq-eqb (first_column t) (first_column t) refl, elem-among (first_column t) a.key (from (i + 1)), ← meant_is e f) refl
+      in-table : counted (Some a) ≡ cond (among (meant (Some a)) later || present (lookup a.key es)) 0 1 + rest
+      unfolding absent keys_at
+      in-table =
+          ap (λ (g : Option Group). absent es (onto (first_column t) g (keys_at (first_column t) later))) meant_is
+          ∙ rw (eq-eqb (first_column t) (first_column t) refl, elem-among (first_column t) a.key later, ← meant_is) refl
 
-  pub named-later : {c : ℕ} → c ≡ first_column t → a.table ≡ c → {r : Bool} → r ≡ among (meant a) (from (i + 1)) → r ≡ true → count i ≡ cond false 1 0 + count (i + 1)
-  named-later e f p q = in-table e f ∙ ap (λ (x : Bool). cond (x || present (lookup a.key es)) 0 1 + count (i + 1)) (sym p ∙ q)
+      module _ {r : Bool} (p : r ≡ among (meant (Some a)) later) where
+        pub named-later : r ≡ true → counted (Some a) ≡ cond false 1 0 + rest
+        named-later q = in-table ∙ ap (λ (x : Bool). cond (x || present (lookup a.key es)) 0 1 + rest) (sym p ∙ q)
 
-  pub not-later : {c : ℕ} → c ≡ first_column t → a.table ≡ c → {r s : Bool} → r ≡ among (meant a) (from (i + 1)) → r ≡ false → s ≡ present (lookup a.key es)
-      → count i ≡ cond (not s) 1 0 + count (i + 1)
-  not-later e f {r} {s} p q w =
-      in-table e f ∙ (λ z. cond ((sym p ∙ q) z || sym w z) 0 1 + count (i + 1)) ∙ flip s
-    where
-      flip : (s : Bool) → cond s 0 1 + count (i + 1) ≡ cond (not s) 1 0 + count (i + 1)
-      flip true = refl
-      flip false = refl
+        pub not-later : {s : Bool} → r ≡ false → s ≡ present (lookup a.key es) → counted (Some a) ≡ cond (not s) 1 0 + rest
+        not-later {s} q w = in-table ∙ (λ z. cond ((sym p ∙ q) z || sym w z) 0 1 + rest) ∙ flip s
+          where
+            flip : (s : Bool) → cond s 0 1 + rest ≡ cond (not s) 1 0 + rest
+            flip true = refl
+            flip false = refl
 
 -- one message's share in the absent rows
 module _ {R : Type 0} (es : List (ℕ × R)) (t : ℕ) (d : Model) where
-  pub each_more : {b : List ℕ} {at i : ℕ} → SetsFrom b at i → at < length b → {s : Span} → Means b at (Framed.Whole s) → (n k : ℕ) {x : ℕ}
+  pub each_more : {b : List ℕ} {at i : ℕ} → SetsFrom b at i → at < length b → {s : Span} → Means b at (Ok s) → (n k : ℕ) {x : ℕ}
       → n + absent_each es t (named_from d b at i) ≡ k → x ≡ absent es (keys_at t (groups_of d (octets_at b s)))
       → n + x + absent_each es t (named_from d b (s.start + s.len) (i + 1)) ≡ k
   unfolding absent_each
@@ -150,7 +139,12 @@ absent-each es t (gs ∷ gss) h =
         (λ p. absurd (f 0 (omega arith) (common-of (t, k) gs hs (sym (elem-among t k gs) ∙ e) (sym (elem-among t k hs) ∙ p))))
         (λ p. p)
 
-pub absent-end : {R : Type 0} (es : List (ℕ × R)) (t : ℕ) (of : NamedGroups) → Few of → (i : ℕ) → of.count ≤ i → absent es (keys_at t (drop i (groups of))) ≡ 0
-unfolding keys_at absent
-absent-end es t of f i h =
-    ap (λ (l : List (Option Group)). absent es (keys_at t l)) (drop-end meant of.all of.count (omega (arith, f)) i h)
+-- the bindings of a message, each in turn
+module _ {R : Type 0} (es : List (ℕ × R)) (t : ℕ) (xs : List (Maybe NamedGroup)) (j : ℕ) where
+  pub absent-turn : j < length xs
+      → absent es (keys_at t (map meant (drop j xs))) ≡ absent es (keys_at t (meant (get_or xs j None) ∷ map meant (drop (j + 1) xs)))
+  absent-turn h = ap (λ (l : List (Option Group)). absent es (keys_at t l)) (meant-turn xs j h)
+
+  pub absent-end : length xs ≤ j → absent es (keys_at t (map meant (drop j xs))) ≡ 0
+  unfolding keys_at absent
+  absent-end h = ap (λ (l : List (Option Group)). absent es (keys_at t l)) (meant_end xs j h)

@@ -1,12 +1,12 @@
 -- What the code's values mean. Assumes nothing.
-use Rattle.std.specs.Prelude.{ℕ, ◌+◌, ◌-◌, ◌≤◌, ◌<◌, ◌≡◌, Bool, true, cond, List, [], ◌∷◌, map, eqb, ltb, length, take, drop}
+use Rattle.std.specs.Prelude.{ℕ, ◌+◌, ◌-◌, ◌≤◌, ◌<◌, ◌≡◌, Bool, true, List, [], ◌∷◌, map, ltb, length, take, drop, Option as Maybe, Some, None, Result, Ok, Err, ⊤}
 use Rattle.std.proofs.Math.Option.{Option, none, some}
 use Rattle.octets.specs.Parts.{part}
 use Rattle.names.specs.SubIds.{subids}
-use Rattle.names.specs.Table.{object_count}
 use Rattle.names.specs.declared.model.Model.{Model}
 use Rattle.octets.specs.Ascending.{All as Every}
 use Rattle.message.specs.Request.{refused, read_request}
+use Rattle.message.specs.declared.form.Refusal.{Refusal}
 use Rattle.message.specs.declared.request.Binding.{Binding}
 use Rattle.block.specs.Content.{Content}
 use Rattle.block.specs.Tables.{rows_of, most}
@@ -16,22 +16,18 @@ use Rattle.answer.specs.Terms.{absent, is_set}
 use Rattle.console.specs.Batch.{most_frames, frames_of}
 use Rattle.answer.specs.Judge.{group_of}
 use Rattle.batch.specs.Names.{Group, groups_of, keys_at}
-use Rattle.batch.specs.Check.{refused_with, read_set, read_then, each_read, first_table}
+use Rattle.batch.specs.Check.{accepted, refused_with, read_set, read_then, each_read, table_number, first_table}
 use Rattle.batch.specs.declared.RbBatch.{RbBatch}
 use Rattle.batch.specs.declared.groups.NamedGroup.{NamedGroup}
 use Rattle.batch.specs.declared.groups.NamedGroups.{NamedGroups}
-use Rattle.batch.specs.declared.reads.SetRead.{SetRead}
-use Rattle.batch.specs.declared.reads.SetRead.TheVariants.{Taken, Refused}
+use Rattle.batch.specs.declared.pairs.Pair.{Pair}
 
--- the row or scalar of a place and a key; past the object table there is none
-abbrev pub meant : NamedGroup → Option Group
-meant t = cond (eqb t.table object_count) none (some (t.table, t.key))
+-- the row or scalar of a place and a key
+abbrev pub meant : Maybe NamedGroup → Option Group
+meant None = none
+meant (Some t) = some (t.table, t.key)
 
--- what stands past an array of groups
-abbrev pub no_group : NamedGroup
-no_group = record { table = 0; key = 0 }
-
--- what a message names
+-- what the bindings of a message name
 abbrev pub groups : NamedGroups → List (Option Group)
 groups r = map meant (take r.count r.all)
 
@@ -65,9 +61,27 @@ pub record SetsFrom (b : List ℕ) (at i : ℕ) : Type 0 where
   pub sets : Every (λ m. is_set (read_request m) ≡ true) (frames_from b at i).0
 
 -- a message as a set: it is one, or its refusal
-abbrev pub SetMeans : List ℕ → SetRead → Type 0
-SetMeans m Taken = (i : ℕ) (v : RbBatch) → read_then i (read_set m) v ≡ v
-SetMeans m (Refused r) = (read_set m ≡ refused r) × (r.at ≤ length m)
+abbrev pub SetMeans : List ℕ → Result ⊤ Refusal → Type 0
+SetMeans m (Ok u) = (i : ℕ) (v : RbBatch) → read_then i (read_set m) v ≡ v
+SetMeans m (Err r) = (read_set m ≡ refused r) × (r.at ≤ length m)
+
+-- what is said of messages as far as refusals go: nothing, or the first refusal
+abbrev pub Said : Result ⊤ RbBatch → RbBatch → Type 0
+Said (Ok u) v = v ≡ accepted
+Said (Err r) v = (v ≡ r) × (r.number ≡ 0 → ⊥)
+
+-- a message, two messages and a table by their numbers, 0 where there is none
+abbrev pub number_at : Maybe ℕ → ℕ
+number_at None = 0
+number_at (Some j) = j
+
+abbrev pub pair_at : Maybe Pair → ℕ × ℕ
+pair_at None = (0, 0)
+pair_at (Some p) = (p.first, p.second)
+
+abbrev pub table_at : Maybe Table → ℕ
+table_at None = 0
+table_at (Some t) = table_number t
 
 -- the absent rows that messages name, counted message by message
 unfoldable pub absent_each : {R : Type 0} → List (ℕ × R) → (column : ℕ) → List (List (Option Group)) → ℕ

@@ -1,24 +1,23 @@
 // The messages of a batch that is read, each found in its place again.
-ghost use Rattle.std.specs.Prelude.{◌≡◌, true, ◌≤◌};
+ghost use Rattle.std.specs.Prelude.{◌≡◌, true, ◌≤◌, Ok};
 ghost use Rattle.message.specs.Request.{read_request};
 ghost use Rattle.answer.specs.Terms.{is_set};
 ghost use Rattle.console.specs.Batch.{octets_at, Within, Means};
-ghost use Rattle.console.specs.declared.frames.Framed.TheVariants.{Whole};
 ghost use Rattle.batch.specs.Names.{groups_of};
 ghost use Rattle.batch.specs.Found.{groups, Few, Goes};
 
 use super::groups::{NamedGroups, groups_in};
-use console::frames::{Framed, Span, frame_at};
+use console::frames::{Span, frame_at};
 use names::model::Model;
 
 // The message whose frame starts at index at.
 pub fn message_at(batch: &[u8], at: usize) -> Span
     requires { Goes batch.now at }
-    ensures { Means batch.now at (Whole result) }
+    ensures { Means batch.now at (Ok result) }
 {
     match frame_at(batch, at) {
-        Framed::Whole(s) => s,
-        Framed::Refused(_) => Span { start: 0, len: 0 },
+        Ok(s) => s,
+        Err(_) => Span { start: 0, len: 0 },
     }
 }
 

@@ -1,5 +1,5 @@
 // What the bindings of a message name.
-ghost use Rattle.std.specs.Prelude.{◌≡◌, true, ◌+◌, ◌≤◌, ◌<◌, drop};
+ghost use Rattle.std.specs.Prelude.{◌≡◌, true, map, ◌≤◌, take};
 ghost use Rattle.names.specs.SubIds.{subids};
 ghost use Rattle.message.specs.Request.{read_request};
 ghost use Rattle.answer.specs.Terms.{is_set};
@@ -8,47 +8,48 @@ ghost use Rattle.batch.specs.Names.{groups_of, same_group, among, common};
 ghost use Rattle.batch.specs.Found.{meant, Few, groups};
 
 use identifiers::targets::target_of;
-use message::form::HEAD_SIZE;
+use message::form::{HEAD_SIZE, MOST_BINDINGS};
 use message::kinds::SET;
-use message::request::{BindingRead, binding_at};
+use message::request::binding_at;
 use names::model::Model;
-use names::table::OBJECT_COUNT;
-use names::targets::{Target, group_of};
+use names::targets::group_of;
 
-// A row or scalar that is named: its group, as the place of its first object, and its key; the group NOTHING where none is named.
-#[derive(Clone, Copy, Drop)]
+// A row or scalar: its group, as the place of its first object, and its key.
+#[derive(Clone, Copy, Debug, PartialEq, Eq)]
 pub struct NamedGroup {
     pub table: usize,
     pub key: u64,
 }
 
-#[derive(Clone, Copy, Drop)]
+// What each binding of a message names.
+// Fixed memory: an array with its count.
+#[derive(Drop)]
 pub struct NamedGroups {
     pub count: usize,
-    pub all: [NamedGroup; 16],
+    pub all: [Option<NamedGroup>; MOST_BINDINGS],
 }
 
-// No object has this place.
-pub const NOTHING: usize = OBJECT_COUNT;
-
-const NO_GROUP: NamedGroup = NamedGroup {
-    table: NOTHING,
-    key: 0,
-};
+impl NamedGroups {
+    pub fn named(&self) -> &[Option<NamedGroup>]
+        requires { self.now.count ≤ 16 }
+        ensures { result.now ≡ take self.now.count self.now.all }
+    {
+        let all = &self.all;
+        &all[..self.count]
+    }
+}
 
 // The row or scalar that a name names on a model.
-pub fn group_named(model: Model, name: &[u8]) -> NamedGroup
+pub fn group_named(model: Model, name: &[u8]) -> Option<NamedGroup>
     requires { model.ports ≤ 64 }
     ensures { meant result ≡ group_of model (subids name.now) }
 {
-    let target = target_of(model, name);
-    match target {
-        Target::Unknown => NO_GROUP,
-        Target::NoIndex(_) => NO_GROUP,
-        Target::At { place, key } => NamedGroup {
-            table: group_of(place),
-            key: key,
-        },
+    match target_of(model, name) {
+        Ok(instance) => Some(NamedGroup {
+            table: group_of(instance.place),
+            key: instance.key,
+        }),
+        Err(_) => None,
     }
 }
 
@@ -57,68 +58,59 @@ pub fn groups_in(model: Model, m: &[u8]) -> NamedGroups
     requires { (model.ports ≤ 64) × (is_set (read_request m.now) ≡ true) }
     ensures { (groups result ≡ groups_of model m.now) × Few result }
 {
-    let mut all = [NO_GROUP; 16];
-    let mut count: usize = 0;
+    let mut all = [None; MOST_BINDINGS];
     let mut at: usize = HEAD_SIZE;
-    while at < m.len() {
+    for count in 0..MOST_BINDINGS {
+        if m.len() <= at {
+            return NamedGroups { count, all };
+        }
         match binding_at(SET, m, at) {
-            BindingRead::Refused(_) => {
+            Err(_) => {
                 return NamedGroups { count, all };
             }
-            BindingRead::Bound { binding, next } => {
-                let start = binding.name;
-                let end = start + binding.size;
+            Ok(bound) => {
+                let start = bound.binding.name;
+                let end = start + bound.binding.size;
                 all[count] = group_named(model, &m[start..end]);
-                count += 1;
-                at = next;
+                at = bound.next;
             }
         }
     }
-    NamedGroups { count, all }
+    NamedGroups {
+        count: MOST_BINDINGS,
+        all,
+    }
 }
 
-pub fn same_group(a: NamedGroup, b: NamedGroup) -> bool
+pub fn same_group(a: Option<NamedGroup>, b: Option<NamedGroup>) -> bool
     ensures { result ≡ same_group (meant a) (meant b) }
 {
-    if a.table == NOTHING {
-        return false;
+    match (a, b) {
+        (Some(a), Some(b)) => a == b,
+        _ => false,
     }
-    if a.table != b.table {
-        return false;
-    }
-    a.key == b.key
 }
 
-// Whether a row or scalar is among those of a message, from one of its bindings on.
-pub fn is_among(t: NamedGroup, of: NamedGroups, from: usize) -> bool
-    requires { Few of × (from ≤ of.count) }
-    ensures { result ≡ among (meant t) (drop from (groups of)) }
+// Whether a row or scalar is among these.
+pub fn is_among(t: Option<NamedGroup>, of: &[Option<NamedGroup>]) -> bool
+    ensures { result ≡ among (meant t) (map meant of.now) }
 {
-    let count = of.count;
-    let all = of.all;
-    let mut j = from;
-    while j < count {
-        if same_group(t, all[j]) {
+    for g in of {
+        if same_group(t, *g) {
             return true;
         }
-        j += 1;
     }
     false
 }
 
 // Whether two messages name a common row or scalar.
-pub fn share(a: NamedGroups, b: NamedGroups) -> bool
-    requires { Few a × Few b }
-    ensures { result ≡ common (groups a) (groups b) }
+pub fn share(a: &[Option<NamedGroup>], b: &[Option<NamedGroup>]) -> bool
+    ensures { result ≡ common (map meant a.now) (map meant b.now) }
 {
-    let count = a.count;
-    let all = a.all;
-    let mut i = 0;
-    while i < count {
-        if is_among(all[i], b, 0) {
+    for g in a {
+        if is_among(*g, b) {
             return true;
         }
-        i += 1;
     }
     false
 }

@@ -1,5 +1,5 @@
 -- Laws of `specs/Batch.antt`: the frame at a place, and the frames found so far with those that are left. Assumes nothing.
-use mathlib.Core.Path.{◌≡◌, refl, sym, ap, ap₂, ◌∙◌}
+use mathlib.Core.Path.{◌≡◌, refl, sym, ap, subst, ◌∙◌}
 use mathlib.Core.Bool.{Bool, true, false}
 use mathlib.Core.List.{List, [], ◌∷◌, ◌++◌, map, append_assoc, append-nil, map-append}
 use Prim.Native.Nat.{ℕ, zero, suc, ◌+◌, ◌-◌, ◌≤◌, ◌<◌}
@@ -11,17 +11,20 @@ use lib.Seq.{drop-drop, take_all, take-suc-set, get_or-set_same, get_or-set_othe
 use borrow.Author.Tests.{eqb-true, eqb-false, ltb-true, ltb-false, lt-ltb, le-ltb}
 use Rattle.octets.proofs.OctetLaws.{octets-drop}
 use Rattle.console.specs.Frames.{heading, filling, fresh, Step, inside, whole, wrong, arrived, run}
-use Rattle.console.specs.Positions.{meant, moved, HeadOf}
+use Rattle.console.specs.Positions.{moved, heading_of, HeadOf}
 use Rattle.console.specs.Batch.{Within, no_span, AllWithin, most_frames, frames_many, led, frames_of, octets_at, Means}
+use Rattle.console.specs.declared.header.Position.{Position}
 use Rattle.console.specs.declared.header.FrameHead.{FrameHead}
 use Rattle.console.specs.declared.frames.Span.{Span}
-use Rattle.console.specs.declared.frames.Framed.{Framed}
-use Rattle.console.specs.declared.frames.Framed.TheVariants.{Whole, Refused}
+use Rattle.std.specs.Prelude.{Ok, Err}
+use Rattle.console.specs.Refusals.{number_of}
+use Rattle.console.specs.declared.refusals.StreamRefused.{StreamRefused}
+use Rattle.console.specs.declared.refusals.StreamRefused.TheVariants.{HeaderWrong}
 use Rattle.console.specs.State.{saved, going, ended, sound, image}
 use Rattle.console.specs.Streams.{noted, hears, AllOctets}
 use Rattle.console.specs.Theorems.{BatchHeard}
 use Rattle.console.proofs.RunLaws.{run_none, run-wrong, fills-part, fills-whole}
-use Rattle.console.proofs.HeaderLaws.{meant-wrong, meant-sized}
+use Rattle.console.proofs.HeaderLaws.{meant-sized}
 use Rattle.console.proofs.CallLaws.{meant-inside}
 use Rattle.console.proofs.SoundLaws.{Good, good-heading, good-run}
 use Rattle.console.proofs.StreamLaws.{refuses}
@@ -45,59 +48,58 @@ unfolding led
 led-whole m r e = rw e
 
 -- the frame at a place, by what the header says
-pub head-here : (b : List ℕ) (at : ℕ) {h : FrameHead} → HeadOf (take (length b - at) (drop at b)) 0 0 h → HeadOf (drop at b) 0 0 h
+abbrev none_yet : Position
+none_yet = record { count = 0; size = 0 }
+
+pub head-here : (b : List ℕ) (at : ℕ) {h : FrameHead} → HeadOf (take (length b - at) (drop at b)) none_yet h → HeadOf (drop at b) none_yet h
 head-here b at w =
     let l : length (drop at b) ≡ length b - at = length-drop at b in
     let e : take (length b - at) (drop at b) ≡ drop at b = take_all (length b - at) (drop at b) (omega arith) in
     rw e at w
 
-module _ (b : List ℕ) (at : ℕ) {h : FrameHead} (w : HeadOf (drop at b) 0 0 h) where
-  runs : {s : Step} → meant h.number h.count h.size ≡ s → run (drop at b) (inside fresh) ≡ moved h.taken (run (drop h.taken (drop at b)) s)
-  runs {s} e = w.means ∙ ap (λ (u : Step). moved h.taken (run (drop h.taken (drop at b)) u)) e
+module _ (b : List ℕ) (at t : ℕ) where
+  runs : {r s : Step} → run (drop at b) (inside fresh) ≡ moved t (run (drop t (drop at b)) r) → r ≡ s
+      → run (drop at b) (inside fresh) ≡ moved t (run (drop t (drop at b)) s)
+  runs w e = w ∙ ap (λ (u : Step). moved t (run (drop t (drop at b)) u)) e
 
-  pub frame-wrong : (h.number ≡ 0 → ⊥) → Means b at (Refused h.number)
-  frame-wrong n = (
-    n,
-    λ r. led-wrong h.number r
-        (ap (λ (u : ℕ × Step). u.1) (runs (meant-wrong h.count h.size n) ∙ ap (moved h.taken) (run-wrong (drop h.taken (drop at b)) h.number))),
-  )
+  pub frame-wrong : {r : StreamRefused} → HeadOf (drop at b) none_yet (record { taken = t; reached = Err r }) → Means b at (Err r)
+  frame-wrong {r} w u =
+      led-wrong (number_of r) u
+      (ap (λ (v : ℕ × Step). v.1) (w.means ∙ ap (moved t) (run-wrong (drop t (drop at b)) (number_of r))))
 
-  pub frame-short : h.number ≡ 0 → (h.count ≡ 5 → ⊥) → Means b at (Refused 21)
-  frame-short n c = (
-    λ z. omega (arith, z),
-    λ r. led-cut h.count h.size r
+  module _ {p : Position} (w : HeadOf (drop at b) none_yet (record { taken = t; reached = Ok p })) where
+    pub frame-short : (p.count ≡ 5 → ⊥) → Means b at (Err HeaderWrong)
+    frame-short c r =
+        led-cut p.count p.size r
         (ap (λ (u : ℕ × Step). u.1)
-        (runs (ap (λ (i : ℕ). meant i h.count h.size) n ∙ meant-inside h.count h.size c)
-        ∙ ap (λ (u : List ℕ). moved h.taken (run u (inside (heading h.count h.size)))) (w.used n c)
-        ∙ ap (moved h.taken) (run_none (inside (heading h.count h.size))))),
-  )
+        (runs w.means (meant-inside p c)
+        ∙ ap (λ (u : List ℕ). moved t (run u (inside (heading_of p)))) (w.used c)
+        ∙ ap (moved t) (run_none (inside (heading_of p)))))
 
-  module _ (n : h.number ≡ 0) (c : h.count ≡ 5) where
-    contents-run : run (drop at b) (inside fresh) ≡ moved h.taken (run (drop (at + h.taken) b) (arrived h.size []))
-    contents-run =
-        runs (ap₂ (λ (i j : ℕ). meant i j h.size) n c ∙ meant-sized h.size)
-        ∙ ap (λ (u : List ℕ). moved h.taken (run u (arrived h.size []))) (drop-drop h.taken at b)
+    module _ (c : p.count ≡ 5) where
+      contents-run : run (drop at b) (inside fresh) ≡ moved t (run (drop (at + t) b) (arrived p.size []))
+      contents-run =
+          runs w.means (meant-sized p c)
+          ∙ ap (λ (u : List ℕ). moved t (run u (arrived p.size []))) (drop-drop t at b)
 
-    pub frame-cut : length b - (at + h.taken) < h.size → Means b at (Refused 21)
-    frame-cut l =
-        let os : List ℕ = drop (at + h.taken) b in
-        let m : length os ≡ length b - (at + h.taken) = length-drop (at + h.taken) b in (
-          λ z. omega (arith, z),
-          λ r. led-part h.size os r (ap (λ (u : ℕ × Step). u.1) (contents-run ∙ ap (moved h.taken) (fills-part h.size [] os (omega arith)))),
-        )
+      pub frame-cut : length b - (at + t) < p.size → Means b at (Err HeaderWrong)
+      frame-cut l r =
+          let os : List ℕ = drop (at + t) b in
+          let m : length os ≡ length b - (at + t) = length-drop (at + t) b in
+          led-part p.size os r (ap (λ (u : ℕ × Step). u.1) (contents-run ∙ ap (moved t) (fills-part p.size [] os (omega arith))))
 
-    pub frame-whole : at ≤ length b → h.size ≤ length b - (at + h.taken) → Means b at (Whole (record { start = at + h.taken; len = h.size }))
-    frame-whole k l =
-        let os : List ℕ = drop (at + h.taken) b in
-        let m : length os ≡ length b - (at + h.taken) = length-drop (at + h.taken) b in
-        let a : length (drop at b) ≡ length b - at = length-drop at b in
-        let t : h.taken ≤ length (drop at b) = w.within in
-        let e : h.size + h.taken ≡ at + h.taken + h.size - at = omega arith in (
-          omega arith,
-          (omega arith, w.short n c),
-          contents-run ∙ ap (moved h.taken) (fills-whole h.size h.size [] os (omega arith) (omega arith))
-              ∙ ap (λ (i : ℕ). (i, whole (take h.size os))) e,
-        )
+      pub frame-whole : at ≤ length b → p.size ≤ length b - (at + t) → Means b at (Ok (record { start = at + t; len = p.size }))
+      frame-whole k l =
+          let os : List ℕ = drop (at + t) b in
+          let m : length os ≡ length b - (at + t) = length-drop (at + t) b in
+          let a : length (drop at b) ≡ length b - at = length-drop at b in
+          let i : t ≤ length (drop at b) = w.within in
+          let e : p.size + t ≡ at + t + p.size - at = omega arith in (
+            omega arith,
+            (omega arith, w.fits c),
+            contents-run ∙ ap (moved t) (fills-whole p.size p.size [] os (omega arith) (omega arith))
+                ∙ ap (λ (i : ℕ). (i, whole (take p.size os))) e,
+          )
 
 -- messages before those that are left
 abbrev pub before : List (List ℕ) → List (List ℕ) × ℕ → List (List ℕ) × ℕ
@@ -130,10 +132,10 @@ module _ (b : List ℕ) (at : ℕ) (h : at < length b) where
   pub frames-full : frames_of 0 (drop at b) ≡ ([], frames_many)
   frames-full = from-full (drop at b) some_left
 
-  pub frames-refused : (n r : ℕ) → Means b at (Refused r) → frames_of (suc n) (drop at b) ≡ ([], r)
-  frames-refused n r m = from_next n (drop at b) some_left ∙ m.1 (frames_of n (drop (run (drop at b) (inside fresh)).0 (drop at b)))
+  pub frames-refused : (n : ℕ) (r : StreamRefused) → Means b at (Err r) → frames_of (suc n) (drop at b) ≡ ([], number_of r)
+  frames-refused n r m = from_next n (drop at b) some_left ∙ m (frames_of n (drop (run (drop at b) (inside fresh)).0 (drop at b)))
 
-  pub frames-whole : (n : ℕ) (s : Span) → Means b at (Whole s)
+  pub frames-whole : (n : ℕ) (s : Span) → Means b at (Ok s)
       → frames_of (suc n) (drop at b) ≡ (octets_at b s ∷ (frames_of n (drop (s.start + s.len) b)).0, (frames_of n (drop (s.start + s.len) b)).1)
   frames-whole n s m =
       let j : at + (s.start + s.len - at) ≡ s.start + s.len = omega (arith, m.0) in
@@ -160,6 +162,10 @@ one_more b spans n s l p q i k = go (eqb i n) refl
 pub sofar-none : (b : List ℕ) (spans : List Span) → length spans ≡ most_frames → Sofar b spans 0 0
 sofar-none b spans h = record { few = omega arith; within = omega arith; long = h; placed = λ i k. absurd (omega arith); rest = refl }
 
+-- after 64 of them
+pub sofar-most : {b : List ℕ} {spans : List Span} {n at : ℕ} → n ≡ most_frames → Sofar b spans n at → Sofar b spans most_frames at
+sofar-most {b} {spans} {n} {at} e w = subst (λ (k : ℕ). Sofar b spans k at) e w
+
 module _ {b : List ℕ} {spans : List Span} {n at : ℕ} (w : Sofar b spans n at) where
   pub sofar-all : length b ≤ at → (map (octets_at b) (take n spans), 0) ≡ frames_of most_frames b
   sofar-all h =
@@ -177,20 +183,13 @@ module _ {b : List ℕ} {spans : List Span} {n at : ℕ} (w : Sofar b spans n at
       more : most_frames - n ≡ suc (most_frames - suc n)
       more = omega arith
 
-      pub sofar-refused : {r : ℕ} {f : Framed} → f ≡ Refused r → Means b at f → (map (octets_at b) (take n spans), r) ≡ frames_of most_frames b
-      sofar-refused {r} q u =
-          let m : Means b at (Refused r) = rw q at u in
-          let e : frames_of (most_frames - n) (drop at b) ≡ ([], r) = rw more (frames-refused b at h (most_frames - suc n) r m) in
-          ap (λ (u : List (List ℕ)). (u, r)) (sym (append-nil (map (octets_at b) (take n spans)))) ∙ (rw e at w.rest)
+      pub sofar-refused : (r : StreamRefused) → Means b at (Err r) → (map (octets_at b) (take n spans), number_of r) ≡ frames_of most_frames b
+      sofar-refused r m =
+          let e : frames_of (most_frames - n) (drop at b) ≡ ([], number_of r) = rw more (frames-refused b at h (most_frames - suc n) r m) in
+          ap (λ (u : List (List ℕ)). (u, number_of r)) (sym (append-nil (map (octets_at b) (take n spans)))) ∙ (rw e at w.rest)
 
-      pub found_within : {s : Span} {f : Framed} → f ≡ Whole s → Means b at f → s.start + s.len ≤ length b
-      found_within {s} q u =
-          let m : Means b at (Whole s) = rw q at u in
-          m.1.0
-
-      pub sofar-more : {s : Span} {f : Framed} → f ≡ Whole s → Means b at f → Sofar b (set spans n s) (n + 1) (s.start + s.len)
-      sofar-more {s} q u =
-          let m : Means b at (Whole s) = rw q at u in
+      pub sofar-more : (s : Span) → Means b at (Ok s) → Sofar b (set spans n s) (n + 1) (s.start + s.len)
+      sofar-more s m =
           let taken : take (suc n) (set spans n s) ≡ take n spans ++ (s ∷ []) = take-suc-set spans n s (omega (arith, w.long)) in
           let later : List (List ℕ) × ℕ = frames_of (most_frames - suc n) (drop (s.start + s.len) b) in
           let e : frames_of (most_frames - n) (drop at b) ≡ (octets_at b s ∷ later.0, later.1) = rw more (frames-whole b at h (most_frames - suc n) s m) in

@@ -1,5 +1,5 @@
 -- Laws of the two calls: what `taking` says at each return. Assumes nothing.
-use mathlib.Core.Path.{◌≡◌, refl, sym, ap, ap₂, ◌∙◌}
+use mathlib.Core.Path.{◌≡◌, refl, sym, ap, ◌∙◌}
 use mathlib.Core.Bool.{true, false}
 use mathlib.Core.List.{List, [], ◌∷◌, ◌++◌, append-nil}
 use Prim.Native.Nat.{ℕ, ◌-◌, ◌≤◌, ◌<◌}
@@ -15,35 +15,37 @@ use Rattle.message.specs.Answer.{most_octets}
 use Rattle.console.specs.Frames.{heading, filling, Step, inside, wrong, arrived, run}
 use Rattle.console.specs.State.{Saved, going, ended, saved, resumed, state, image, saved_in, saved_of, is_left}
 use Rattle.console.specs.Calls.{refused, told, taking}
-use Rattle.console.specs.Positions.{meant, moved, InHeader, HeadOf, Tail}
-use Rattle.console.specs.declared.header.FrameHead.{FrameHead}
+use Rattle.std.specs.Prelude.{Ok, Err}
+use Rattle.console.specs.Refusals.{number_of}
+use Rattle.console.specs.Positions.{meant, moved, heading_of, InHeader, HeadOf, Tail}
+use Rattle.console.specs.declared.header.Position.{Position}
+use Rattle.console.specs.declared.refusals.StreamRefused.{StreamRefused}
 use Rattle.console.proofs.RunLaws.{run-wrong, arrived-part}
-use Rattle.console.proofs.HeaderLaws.{meant-wrong, meant-sized, moved_none}
+use Rattle.console.proofs.HeaderLaws.{meant-sized, moved_none}
 use Rattle.console.proofs.StateLaws.{patch-first, drop-state, wrong-told, cut-told}
 use Rattle.console.proofs.LeftLaws.{left-sound, left-image, left-length, sound-heading, sound-filling}
 
-pub meant-inside : (c z : ℕ) → (c ≡ 5 → ⊥) → meant 0 c z ≡ inside (heading c z)
-unfolding meant
-meant-inside c z h = rw (ne_eqb c 5 h)
+pub meant-inside : (p : Position) → (p.count ≡ 5 → ⊥) → meant (Ok p) ≡ inside (heading_of p)
+meant-inside p h = rw (ne_eqb p.count 5 h)
 
 -- a chunk whose octets the header took: refused, within a message, or used up
-module _ (room : List ℕ) {chunk : List ℕ} {count size : ℕ} {h : FrameHead} (w : HeadOf chunk count size h) where
-  means : {s : Step} → meant h.number h.count h.size ≡ s → told room (moved h.taken (run (drop h.taken chunk) s)) ≡ told room (run chunk (inside (heading count size)))
-  means {s} e = sym (ap (told room) (w.means ∙ ap (λ (u : Step). moved h.taken (run (drop h.taken chunk) u)) e))
+module _ (room chunk : List ℕ) (from : Position) (t : ℕ) where
+  tells : {r s : Step} → run chunk (inside (heading_of from)) ≡ moved t (run (drop t chunk) r) → r ≡ s
+      → told room (moved t (run (drop t chunk) s)) ≡ told room (run chunk (inside (heading_of from)))
+  tells w e = sym (ap (told room) (w ∙ ap (λ (u : Step). moved t (run (drop t chunk) u)) e))
 
-  pub head-refused : {st : List ℕ} → (h.number ≡ 0 → ⊥) → st ≡ state h.number 0 0 []
-      → record { number = h.number; taken = h.taken; complete = 0; count = 0; room = room; state = st } ≡ told room (run chunk (inside (heading count size)))
-  head-refused n e = wrong-told room h.number h.taken (drop h.taken chunk) e ∙ means (meant-wrong h.count h.size n)
+  pub head-refused : {r : StreamRefused} {n : ℕ} {st : List ℕ} → HeadOf chunk from (record { taken = t; reached = Err r }) → n ≡ number_of r
+      → st ≡ state n 0 0 []
+      → record { number = n; taken = t; complete = 0; count = 0; room = room; state = st } ≡ told room (run chunk (inside (heading_of from)))
+  head-refused {r} {n} w k e = wrong-told room n t (drop t chunk) e ∙ tells w.means (ap wrong (sym k))
 
-  pub head-filled : h.number ≡ 0 → h.count ≡ 5
-      → told room (moved h.taken (run (drop h.taken chunk) (arrived h.size []))) ≡ told room (run chunk (inside (heading count size)))
-  head-filled n c = means (ap₂ (λ (i j : ℕ). meant i j h.size) n c ∙ meant-sized h.size)
+  module _ {p : Position} (w : HeadOf chunk from (record { taken = t; reached = Ok p })) where
+    pub head-filled : p.count ≡ 5 → told room (moved t (run (drop t chunk) (arrived p.size []))) ≡ told room (run chunk (inside (heading_of from)))
+    head-filled c = tells w.means (meant-sized p c)
 
-  pub head-used : {st : List ℕ} → h.number ≡ 0 → (h.count ≡ 5 → ⊥) → st ≡ state 0 h.count h.size []
-      → record { number = 0; taken = h.taken; complete = 0; count = 0; room = room; state = st } ≡ told room (run chunk (inside (heading count size)))
-  head-used n c e =
-      cut-told room h.count h.size h.taken (w.used n c) e
-      ∙ means (ap (λ (i : ℕ). meant i h.count h.size) n ∙ meant-inside h.count h.size c)
+    pub head-used : {st : List ℕ} → (p.count ≡ 5 → ⊥) → st ≡ state 0 p.count p.size []
+        → record { number = 0; taken = t; complete = 0; count = 0; room = room; state = st } ≡ told room (run chunk (inside (heading_of from)))
+    head-used c e = cut-told room p.count p.size t (w.used c) e ∙ tells w.means (meant-inside p c)
 
 -- what a state that a stream leaves is, by its phase
 module _ (b : List ℕ) (e : is_left b ≡ true) where

@@ -1,82 +1,79 @@
 -- What an octet makes of a position in a header, case by case, as the code answers it; and how the octets of a chunk follow. Assumes nothing.
-use mathlib.Core.Path.{◌≡◌, refl, sym, ap, ◌∙◌}
+use mathlib.Core.Path.{◌≡◌, refl, sym, ap, subst, ◌∙◌}
 use mathlib.Core.List.{List, [], ◌∷◌}
 use Prim.Native.Nat.{ℕ, ◌+◌, ◌*◌, ◌≤◌, ◌<◌}
 use native.Mathlib.Omega.{arith}
 use lib.ListN.{length, drop, get_or, drop_of_length-le}
 use borrow.Author.Tests.{lt-ltb, le-ltb, eq-eqb, ne_eqb}
 use Rattle.message.specs.Answer.{most_octets}
-use Rattle.console.specs.Frames.{mark, heading, fresh, Step, inside, wrong, arrived, sized, step, run}
-use Rattle.console.specs.Positions.{meant, moved, NextPosition, HeadOf}
+use Rattle.console.specs.Frames.{mark, fresh, Step, inside, arrived, sized, step, run}
+use Rattle.std.specs.Prelude.{Result, Ok, Err}
+use Rattle.console.specs.Positions.{meant, moved, heading_of, NextPosition, HeadOf}
 use Rattle.console.specs.declared.header.Position.{Position}
+use Rattle.console.specs.declared.header.FrameHead.{FrameHead}
+use Rattle.console.specs.declared.refusals.StreamRefused.{StreamRefused}
+use Rattle.console.specs.declared.refusals.StreamRefused.TheVariants.{HeaderWrong, LengthOver}
 use Rattle.console.proofs.RunLaws.{run-turn}
 
--- what the three numbers mean
-pub meant-wrong : {n : ℕ} (c z : ℕ) → (n ≡ 0 → ⊥) → meant n c z ≡ wrong n
-unfolding meant
-meant-wrong {n} c z h = rw (ne_eqb n 0 h)
+-- what a position means
+pub meant-within : (p : Position) → p.count ≤ 4 → meant (Ok p) ≡ inside (heading_of p)
+meant-within p h = rw (ne_eqb p.count 5 (λ e. omega arith))
 
-pub meant-within : (c z : ℕ) → c ≤ 4 → meant 0 c z ≡ inside (heading c z)
-unfolding meant
-meant-within c z h = rw (ne_eqb c 5 (λ e. omega arith))
+pub meant-sized : (p : Position) → p.count ≡ 5 → meant (Ok p) ≡ arrived p.size []
+meant-sized p h = rw h
 
-pub meant-sized : (z : ℕ) → meant 0 5 z ≡ arrived z []
-unfolding meant
-meant-sized z = refl
+abbrev position : (count size : ℕ) → Position
+position count size = record { count = count; size = size }
 
-abbrev position : (number count size : ℕ) → Position
-position number count size = record { number = number; count = count; size = size }
-
-module _ (c z o : ℕ) where
-  pub next-mark : c < 3 → o ≡ get_or mark c 0 → NextPosition c z o (position 0 (c + 1) 0)
+module _ (p : Position) (o : ℕ) where
+  pub next-mark : p.count < 3 → o ≡ get_or mark p.count 0 → NextPosition p o (Ok (position (p.count + 1) 0))
   unfolding step
   next-mark h e =
       record {
-        means = rw (lt-ltb c 3 h, eq-eqb o (get_or mark c 0) e) (sym (meant-within (c + 1) 0 (omega arith)));
-        further = λ _. refl;
-        small = omega arith;
-        short = λ _ q. omega arith;
+        means =
+            rw (lt-ltb p.count 3 h, eq-eqb o (get_or mark p.count 0) e) (sym (meant-within (position (p.count + 1) 0) (omega arith)));
+        further = (refl, omega arith);
+        fits = λ q. omega arith;
       }
 
-  pub next-other : c < 3 → (o ≡ get_or mark c 0 → ⊥) → NextPosition c z o (position 21 0 0)
-  unfolding step meant
+  pub next-other : p.count < 3 → (o ≡ get_or mark p.count 0 → ⊥) → NextPosition p o (Err HeaderWrong)
+  unfolding step
   next-other h e =
       record {
-        means = rw (lt-ltb c 3 h, ne_eqb o (get_or mark c 0) e);
-        further = λ q. absurd (omega arith);
-        small = omega arith;
-        short = λ q. absurd (omega arith);
+        means = rw (lt-ltb p.count 3 h, ne_eqb o (get_or mark p.count 0) e);
+        further = tt;
+        fits = tt;
       }
 
-  pub next-length : c ≡ 3 → o < 256 → NextPosition c z o (position 0 (c + 1) (o * 256))
-  unfolding step meant
+  pub next-length : p.count ≡ 3 → o < 256 → NextPosition p o (Ok (position (p.count + 1) (o * 256)))
+  unfolding step
   next-length h k =
       record {
         means = rw h;
-        further = λ _. refl;
-        small = omega arith;
-        short = λ _ q. absurd (omega arith);
+        further = (refl, omega arith);
+        fits = λ q. absurd (omega arith);
       }
 
-  module _ (low : 3 ≤ c) (other : c ≡ 3 → ⊥) (high : c ≤ 4) where
-    pub next-long : most_octets < z + o → NextPosition c z o (position 22 0 0)
-    unfolding step sized meant
+  module _ (low : 3 ≤ p.count) (other : p.count ≡ 3 → ⊥) (high : p.count ≤ 4) where
+    pub next-long : most_octets < p.size + o → NextPosition p o (Err LengthOver)
+    unfolding step sized
     next-long h =
         record {
-          means = rw (le-ltb c 3 low, ne_eqb c 3 other, lt-ltb most_octets (z + o) h);
-          further = λ q. absurd (omega arith);
-          small = omega arith;
-          short = λ q. absurd (omega arith);
+          means =
+              rw (le-ltb p.count 3 low, ne_eqb p.count 3 other, lt-ltb most_octets (p.size + o) h);
+          further = tt;
+          fits = tt;
         }
 
-    pub next-sized : z + o ≤ most_octets → NextPosition c z o (position 0 5 (z + o))
-    unfolding step sized meant
+    pub next-sized : p.size + o ≤ most_octets → NextPosition p o (Ok (position (p.count + 1) (p.size + o)))
+    unfolding step sized
     next-sized h =
+        let e : p.count ≡ 4 = omega arith in
         record {
-          means = rw (le-ltb c 3 low, ne_eqb c 3 other, le-ltb most_octets (z + o) h);
-          further = λ _. omega arith;
-          small = omega arith;
-          short = λ _ _. h;
+          means =
+              rw (le-ltb p.count 3 low, ne_eqb p.count 3 other, le-ltb most_octets (p.size + o) h, e);
+          further = (refl, omega arith);
+          fits = λ q. h;
         }
 
 pub moved_none : (r : ℕ × Step) → r ≡ moved 0 r
@@ -84,46 +81,49 @@ moved_none r =
     let e : r.0 ≡ r.0 + 0 = omega arith in
     ap (λ (k : ℕ). (k, r.1)) e
 
+-- where a header leads, by name
+pub head-as : {chunk : List ℕ} {from : Position} {h : FrameHead} {r : Result Position StreamRefused} → h.reached ≡ r → HeadOf chunk from h
+    → HeadOf chunk from (record { taken = h.taken; reached = r })
+head-as {chunk} {from} {h} e w = subst (λ (u : Result Position StreamRefused). HeadOf chunk from (record { taken = h.taken; reached = u })) e w
+
 -- after i octets of a chunk, which led to a position in the header: what the next octet leads to, and the end of the chunk
-module _ (chunk : List ℕ) (count size i c z : ℕ) (e : run chunk (inside (heading count size)) ≡ moved i (run (drop i chunk) (inside (heading c z)))) (few : i ≤ 4) where
-  module _ (h : i < length chunk) {p : Position} (n : NextPosition c z (get_or chunk i 0) p) where
-    turned : run chunk (inside (heading count size)) ≡ moved (i + 1) (run (drop (i + 1) chunk) (meant p.number p.count p.size))
-    turned = e ∙ run-turn chunk i (heading c z) h ∙ ap (λ (s : Step). moved (i + 1) (run (drop (i + 1) chunk) s)) n.means
+module _ (chunk : List ℕ) (from : Position) (i : ℕ) (p : Position) (e : run chunk (inside (heading_of from)) ≡ moved i (run (drop i chunk) (inside (heading_of p)))) (few : i ≤ 4) where
+  module _ (h : i < length chunk) where
+    turned : {s : Step} → step (heading_of p) (get_or chunk i 0) ≡ s → run chunk (inside (heading_of from)) ≡ moved (i + 1) (run (drop (i + 1) chunk) s)
+    turned n = e ∙ run-turn chunk i (heading_of p) h ∙ ap (λ (s : Step). moved (i + 1) (run (drop (i + 1) chunk) s)) n
 
-    pub head-wrong : (p.number ≡ 0 → ⊥) → HeadOf chunk count size (record { taken = i + 1; number = p.number; count = 0; size = 0 })
-    head-wrong w =
+    pub head-wrong : {r : StreamRefused} → NextPosition p (get_or chunk i 0) (Err r) → HeadOf chunk from (record { taken = i + 1; reached = Err r })
+    head-wrong n =
         record {
-          means = turned ∙ ap (λ (s : Step). moved (i + 1) (run (drop (i + 1) chunk) s)) (meant-wrong p.count p.size w ∙ sym (meant-wrong 0 0 w));
+          means = turned n.means;
           within = omega arith;
           few = omega arith;
-          short = λ q. absurd (w q);
-          used = λ q. absurd (w q);
+          fits = tt;
+          used = tt;
         }
 
-    pub head-whole : p.number ≡ 0 → p.count ≡ 5 → HeadOf chunk count size (record { taken = i + 1; number = 0; count = 5; size = p.size })
-    head-whole w f =
-        record {
-          means = rw (w, f) at turned;
-          within = omega arith;
-          few = omega arith;
-          short = λ _ _. n.short w f;
-          used = λ _ g. absurd (g refl);
-        }
+    module _ {q : Position} (n : NextPosition p (get_or chunk i 0) (Ok q)) where
+      pub head-whole : q.count ≡ 5 → HeadOf chunk from (record { taken = i + 1; reached = Ok q })
+      head-whole f =
+          record {
+            means = turned n.means;
+            within = omega arith;
+            few = omega arith;
+            fits = n.fits;
+            used = λ g. absurd (g f);
+          }
 
-    pub head-inside : p.number ≡ 0 → p.count ≤ 4 → run chunk (inside (heading count size)) ≡ moved (i + 1) (run (drop (i + 1) chunk) (inside (heading p.count p.size)))
-    head-inside w g =
-        turned
-        ∙ ap (λ (k : ℕ). moved (i + 1) (run (drop (i + 1) chunk) (meant k p.count p.size))) w
-        ∙ ap (λ (s : Step). moved (i + 1) (run (drop (i + 1) chunk) s)) (meant-within p.count p.size g)
+      pub head-inside : q.count ≤ 4 → run chunk (inside (heading_of from)) ≡ moved (i + 1) (run (drop (i + 1) chunk) (inside (heading_of q)))
+      head-inside g = turned (n.means ∙ meant-within q g)
 
-  pub head-cut : i ≡ length chunk → c ≤ 4 → HeadOf chunk count size (record { taken = i; number = 0; count = c; size = z })
+  pub head-cut : i ≡ length chunk → p.count ≤ 4 → HeadOf chunk from (record { taken = length chunk; reached = Ok p })
   head-cut h g =
       record {
-        means = e ∙ ap (λ (s : Step). moved i (run (drop i chunk) s)) (sym (meant-within c z g));
+        means = rw (← h) (e ∙ ap (λ (s : Step). moved i (run (drop i chunk) s)) (sym (meant-within p g)));
         within = omega arith;
         few = omega arith;
-        short = λ _ q. absurd (omega arith);
-        used = λ _ _. drop_of_length-le chunk {i = i} (omega arith);
+        fits = λ q. absurd (omega arith);
+        used = λ q. drop_of_length-le chunk {i = length chunk} (omega arith);
       }
 
 -- five octets of a header

@@ -1,11 +1,11 @@
 -- The frames of a batch (paper 02, E10: "The batch is messages framed as in E7"). Assumes nothing.
-use Rattle.std.specs.Prelude.{◌≡◌, cond, List, [], ◌∷◌, ℕ, zero, suc, ◌+◌, ◌-◌, ◌≤◌, ◌<◌, ltb, length, drop, get_or}
+use Rattle.std.specs.Prelude.{◌≡◌, cond, List, [], ◌∷◌, ℕ, zero, suc, ◌+◌, ◌-◌, ◌≤◌, ◌<◌, ltb, length, drop, get_or, Result, Ok, Err}
 use Rattle.octets.specs.Parts.{part}
 use Rattle.message.specs.Answer.{most_octets}
 use Rattle.console.specs.Frames.{header_wrong, fresh, Step, inside, whole, wrong, run}
 use Rattle.console.specs.declared.frames.Span.{Span}
-use Rattle.console.specs.declared.frames.Framed.{Framed}
-use Rattle.console.specs.declared.frames.Framed.TheVariants.{Whole, Refused}
+use Rattle.console.specs.Refusals.{number_of}
+use Rattle.console.specs.declared.refusals.StreamRefused.{StreamRefused}
 
 -- "up to 64 set messages"
 abbrev pub most_frames : ℕ
@@ -41,7 +41,7 @@ no_span = record { start = 0; len = 0 }
 abbrev pub AllWithin : List ℕ → List Span → ℕ → Type 0
 AllWithin b spans n = (i : ℕ) → i < n → Within b (get_or spans i no_span)
 
--- what the code finds at index at: a message in its place, or the number that ends the batch whatever follows
-abbrev pub Means : (b : List ℕ) (at : ℕ) → Framed → Type 0
-Means b at (Whole s) = (at ≤ s.start) × Within b s × (run (drop at b) (inside fresh) ≡ (s.start + s.len - at, whole (octets_at b s)))
-Means b at (Refused n) = (n ≡ 0 → ⊥) × ((r : List (List ℕ) × ℕ) → led (run (drop at b) (inside fresh)).1 r ≡ ([], n))
+-- what stands at index at: a message in its place, or what ends the batch whatever follows
+abbrev pub Means : (b : List ℕ) (at : ℕ) → Result Span StreamRefused → Type 0
+Means b at (Ok s) = (at ≤ s.start) × Within b s × (run (drop at b) (inside fresh) ≡ (s.start + s.len - at, whole (octets_at b s)))
+Means b at (Err e) = (r : List (List ℕ) × ℕ) → led (run (drop at b) (inside fresh)).1 r ≡ ([], number_of e)

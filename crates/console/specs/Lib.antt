@@ -1,3 +1,4 @@
+pub mod Refusals
 pub mod Frames
 pub mod State
 pub mod Calls

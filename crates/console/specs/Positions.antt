@@ -1,16 +1,24 @@
 -- What the code's own numbers mean: a position in a header, a state's numbers, and what an inner function finds. Assumes nothing.
-use Rattle.std.specs.Prelude.{◌≡◌, Bool, cond, ◌&&◌, List, [], ◌∷◌, ◌++◌, ℕ, ◌+◌, ◌-◌, ◌≤◌, ◌<◌, eqb, leb, ltb, length, drop}
-use Rattle.octets.specs.Numbers.{be_octets}
+use Rattle.std.specs.Prelude.{◌≡◌, Bool, cond, ◌&&◌, List, [], ◌∷◌, ◌++◌, ℕ, ◌+◌, ◌-◌, ◌≤◌, ◌<◌, eqb, leb, ltb, length, drop, get_or, Result, Ok, Err, IfOk}
+use Rattle.octets.specs.Numbers.{be_at, be_octets}
 use Rattle.octets.specs.Parts.{zeros}
 use Rattle.message.specs.Answer.{most_octets}
-use Rattle.console.specs.Frames.{header_size, heading, Step, inside, wrong, arrived, step, run}
-use Rattle.console.specs.State.{going, ended, sound, state_size, at_contents, header_phase, contents_phase}
+use Rattle.console.specs.Frames.{header_size, Frame, heading, Step, inside, wrong, arrived, step, run}
+use Rattle.console.specs.State.{going, ended, sound, state_size, at_phase, at_count, at_size, at_contents, header_phase, contents_phase}
+use Rattle.console.specs.declared.state.Front.{Front}
+use Rattle.console.specs.Refusals.{number_of}
+use Rattle.console.specs.declared.refusals.StreamRefused.{StreamRefused}
 use Rattle.console.specs.declared.header.Position.{Position}
 use Rattle.console.specs.declared.header.FrameHead.{FrameHead}
 
--- a number, or so many octets of the header and the message length so far; with five the header is whole
-unfoldable pub meant : (number count size : ℕ) → Step
-meant number count size = cond (eqb number 0) (cond (eqb count header_size) (arrived size []) (inside (heading count size))) (wrong number)
+-- the frame of a position in its header
+abbrev pub heading_of : Position → Frame
+heading_of p = heading p.count p.size
+
+-- where octets lead: to a wrong one, or to a position; with five octets the header is whole
+abbrev pub meant : Result Position StreamRefused → Step
+meant (Ok p) = cond (eqb p.count header_size) (arrived p.size []) (inside (heading_of p))
+meant (Err r) = wrong (number_of r)
 
 -- the same run, after n octets more
 abbrev pub moved : ℕ → ℕ × Step → ℕ × Step
@@ -20,26 +28,36 @@ moved n r = (r.0 + n, r.1)
 abbrev pub InHeader : (count size : ℕ) → Type 0
 InHeader count size = (count < header_size) × (size < 65536)
 
+-- a whole header, with a message length that is not over
+abbrev pub Fits : Position → Type 0
+Fits p = p.count ≡ header_size → p.size ≤ most_octets
+
 -- what an octet makes of a position in the header
-pub record NextPosition (count size octet : ℕ) (r : Position) : Type 0 where
-  pub means : step (heading count size) octet ≡ meant r.number r.count r.size
-  pub further : r.number ≡ 0 → r.count ≡ count + 1
-  pub small : r.size < 65536
-  pub short : r.number ≡ 0 → r.count ≡ header_size → r.size ≤ most_octets
+pub record NextPosition (p : Position) (octet : ℕ) (r : Result Position StreamRefused) : Type 0 where
+  pub means : step (heading_of p) octet ≡ meant r
+  pub further : IfOk r (λ q. (q.count ≡ p.count + 1) × (q.size < 65536))
+  pub fits : IfOk r Fits
 
 -- what the octets of a chunk make of it, as far as the header goes
-pub record HeadOf (chunk : List ℕ) (count size : ℕ) (r : FrameHead) : Type 0 where
-  pub means : run chunk (inside (heading count size)) ≡ moved r.taken (run (drop r.taken chunk) (meant r.number r.count r.size))
-  pub within : r.taken ≤ length chunk
-  pub few : r.taken ≤ header_size
-  pub short : r.number ≡ 0 → r.count ≡ header_size → r.size ≤ most_octets
-  pub used : r.number ≡ 0 → (r.count ≡ header_size → ⊥) → drop r.taken chunk ≡ []
+pub record HeadOf (chunk : List ℕ) (p : Position) (h : FrameHead) : Type 0 where
+  pub means : run chunk (inside (heading_of p)) ≡ moved h.taken (run (drop h.taken chunk) (meant h.reached))
+  pub within : h.taken ≤ length chunk
+  pub few : h.taken ≤ header_size
+  pub fits : IfOk h.reached Fits
+  pub used : IfOk h.reached (λ q. (q.count ≡ header_size → ⊥) → drop h.taken chunk ≡ [])
 
 -- a state's octets with zeros behind the first held octets of its contents
 pub record Tail (b : List ℕ) (held : ℕ) : Type 0 where
   pub sized : length b ≡ state_size
   pub fits : held ≤ most_octets
   pub clear : drop (at_contents + held) b ≡ zeros (most_octets - held)
+
+-- the numbers that the octets of a state hold, of two octets each
+pub record FrontOf (b : List ℕ) (f : Front) : Type 0 where
+  pub phase : f.phase ≡ get_or b at_phase 0
+  pub count : f.count ≡ be_at b at_count 2
+  pub size : f.size ≡ be_at b at_size 2
+  pub small : f.size < 65536
 
 -- the first five octets of a state
 abbrev pub front : (p c z : ℕ) → List ℕ

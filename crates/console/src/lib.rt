@@ -3,6 +3,7 @@
 
 pub mod frames;
 pub mod header;
+pub mod refusals;
 pub mod state;
 
 ghost use Rattle.std.specs.Prelude.{◌≡◌, ◌≤◌, [], length, drop};
@@ -12,18 +13,19 @@ ghost use Rattle.console.specs.Frames.{heading, inside, arrived, run, header_siz
 ghost use Rattle.console.specs.State.{at_contents};
 ghost use Rattle.console.specs.Calls.{outcome, told, taking, resetting};
 ghost use Rattle.console.specs.Positions.{moved, InHeader, Tail};
+ghost use Rattle.console.specs.Refusals.{number_in};
 
-use header::{HEADER_OCTETS, HEADER_WRONG, read_header};
-use message::refusals::ROOM_SHORT;
+use header::{HEADER_OCTETS, Position, read_header};
+use message::refusals::Reason;
 use message::sizes::MOST_OCTETS;
-use octets::numbers::be2;
 use octets::parts::{clear, copy_in};
+use refusals::StreamRefused;
 use state::{
-    AT_CONTENTS, AT_COUNT, AT_PHASE, AT_SIZE, CONTENTS_PHASE, HEADER_PHASE, STATE_OCTETS, is_left,
-    put_bare, put_front,
+    AT_CONTENTS, CONTENTS_PHASE, FRESH_FRONT, Front, HEADER_PHASE, STATE_OCTETS, front_of, is_left,
 };
 
 // What a call returns: its number, the octets that it took, whether it handed out a message, and the message's length.
+// The C interface: numbers, and 0 for none.
 #[repr(C)]
 #[derive(Drop)]
 pub struct RbConsole {
@@ -49,7 +51,13 @@ fn take_contents(
     let need = size - held;
     if rest < need {
         copy_in(saved, AT_CONTENTS + held, &chunk[at..]);
-        put_front(saved, CONTENTS_PHASE, held + rest, size);
+        let count = held + rest;
+        let front = Front {
+            phase: CONTENTS_PHASE,
+            count,
+            size,
+        };
+        front.put(saved);
         return RbConsole {
             number: 0,
             taken: (at + rest) as u32,
@@ -62,7 +70,7 @@ fn take_contents(
     let to = at + need;
     copy_in(room, 0, &saved[from..end]);
     copy_in(room, held, &chunk[at..to]);
-    put_bare(saved, HEADER_PHASE, 0, 0);
+    FRESH_FRONT.put_bare(saved);
     RbConsole {
         number: 0,
         taken: to as u32,
@@ -72,35 +80,44 @@ fn take_contents(
 }
 
 // Takes octets from a position in a header on.
-fn take_header(
-    saved: &mut [u8],
-    chunk: &[u8],
-    room: &mut [u8],
-    count: usize,
-    size: usize,
-) -> RbConsole
-    requires { Tail saved.old 0 × InHeader count size × (most_octets ≤ length room.old) }
-    ensures { outcome result room.new saved.new ≡ told room.old (run chunk.now (inside (heading count size))) }
+fn take_header(saved: &mut [u8], chunk: &[u8], room: &mut [u8], at: Position) -> RbConsole
+    requires { Tail saved.old 0 × InHeader at.count at.size × (most_octets ≤ length room.old) }
+    ensures { outcome result room.new saved.new ≡ told room.old (run chunk.now (inside (heading at.count at.size))) }
 {
-    let h = read_header(chunk, count, size);
-    if h.number != 0 {
-        put_bare(saved, h.number, 0, 0);
-        return RbConsole {
-            number: h.number as u32,
-            taken: h.taken as u32,
-            complete: 0,
-            count: 0,
-        };
-    }
-    if h.count == HEADER_OCTETS {
-        return take_contents(saved, chunk, h.taken, room, 0, h.size);
-    }
-    put_bare(saved, HEADER_PHASE, h.count, h.size);
-    RbConsole {
-        number: 0,
-        taken: h.taken as u32,
-        complete: 0,
-        count: 0,
+    let h = read_header(chunk, at);
+    match h.reached {
+        Err(refused) => {
+            let number = u32::from(refused);
+            let front = Front {
+                phase: number as u8,
+                count: 0,
+                size: 0,
+            };
+            front.put_bare(saved);
+            RbConsole {
+                number,
+                taken: h.taken as u32,
+                complete: 0,
+                count: 0,
+            }
+        }
+        Ok(p) => {
+            if p.count == HEADER_OCTETS {
+                return take_contents(saved, chunk, h.taken, room, 0, p.size);
+            }
+            let front = Front {
+                phase: HEADER_PHASE,
+                count: p.count,
+                size: p.size,
+            };
+            front.put_bare(saved);
+            RbConsole {
+                number: 0,
+                taken: h.taken as u32,
+                complete: 0,
+                count: 0,
+            }
+        }
     }
 }
 
@@ -120,30 +137,28 @@ pub fn take(state: &mut [u8], chunk: &[u8], room: &mut [u8]) -> RbConsole
     ensures { outcome result room.new state.new ≡ taking state.old chunk.now room.old }
 {
     if room.len() < MOST_OCTETS {
-        return refusal(ROOM_SHORT);
+        return refusal(u32::from(Reason::RoomShort));
     }
     if !is_left(state) {
-        return refusal(HEADER_WRONG as u32);
+        return refusal(u32::from(StreamRefused::HeaderWrong));
     }
-    let phase = state[AT_PHASE];
+    let Front { phase, count, size } = front_of(state);
     if CONTENTS_PHASE < phase {
         return refusal(phase as u32);
     }
-    let count = be2(state, AT_COUNT) as usize;
-    let size = be2(state, AT_SIZE) as usize;
     if phase == CONTENTS_PHASE {
         return take_contents(state, chunk, 0, room, count, size);
     }
-    take_header(state, chunk, room, count, size)
+    take_header(state, chunk, room, Position { count, size })
 }
 
-// Makes a state fresh, whatever it held. Returns the call's number.
-pub fn reset(state: &mut [u8]) -> u32
-    ensures { (result, state.new) ≡ resetting state.old }
+// Makes a state fresh, whatever it held.
+pub fn reset(state: &mut [u8]) -> Result<(), StreamRefused>
+    ensures { (number_in result, state.new) ≡ resetting state.old }
 {
     if state.len() != STATE_OCTETS {
-        return HEADER_WRONG as u32;
+        return Err(StreamRefused::HeaderWrong);
     }
     clear(state, 0, STATE_OCTETS);
-    0
+    Ok(())
 }

@@ -10,63 +10,52 @@ use Rattle.console.proofs.take.Goals as goal
 
 pub returns-then-room-lt-MOST_OCTETS : goal.returns-then-room-lt-MOST_OCTETS
 returns-then-room-lt-MOST_OCTETS c =
-    rw c.refusal.ensures (take_short c.args.state.now c.args.chunk.now c.args.room.now (omega arith))
+    rw (c.refusal.ensures, c.from.ensures) (take_short c.args.state.now c.args.chunk.now c.args.room.now (omega arith))
 
 pub returns-then-not-is_left : goal.returns-then-not-is_left
 returns-then-not-is_left c =
     let a = c.args in
-    rw c.refusal-then-not-is_left.ensures
+    rw (c.refusal-then-not-is_left.ensures, c.from-then-not-is_left.ensures)
     (take-unfit a.state.now a.chunk.now a.room.now (omega arith) (sym c.is_left.ensures ∙ c.if-not-is_left.true))
 
-pub bounds-state-0 : goal.bounds-state-0
-bounds-state-0 c =
-    omega (arith, left-length _ (sym c.is_left.ensures ∙ c.if-not-is_left.false))
-
-pub overflow_cast-phase : goal.overflow_cast-phase
-overflow_cast-phase c = omega (arith, c.type_inv.state 0)
+pub front_of-phase-requires : goal.front_of-phase-requires
+front_of-phase-requires c = left-length _ (sym c.is_left.ensures ∙ c.if-not-is_left.false)
 
 pub returns-then-phase-gt-CONTENTS_PHASE : goal.returns-then-phase-gt-CONTENTS_PHASE
 returns-then-phase-gt-CONTENTS_PHASE c =
     let a = c.args in
-    rw c.refusal-then-phase-gt-CONTENTS_PHASE.ensures (take_again a.state.now a.chunk.now a.room.now (omega arith) (sym c.is_left.ensures ∙ c.if-not-is_left.false) (omega (arith, c.if-phase-gt-CONTENTS_PHASE.true)))
-
-pub be2-count-requires : goal.be2-count-requires
-be2-count-requires c =
-    omega (arith, left-length _ (sym c.is_left.ensures ∙ c.if-not-is_left.false))
-
-pub be2-size-requires : goal.be2-size-requires
-be2-size-requires c =
-    omega (arith, left-length _ (sym c.is_left.ensures ∙ c.if-not-is_left.false))
+    let p = c.front_of-phase.ensures.phase in
+    rw (c.refusal-then-phase-gt-CONTENTS_PHASE.ensures, p) (take_again a.state.now a.chunk.now a.room.now (omega arith) (sym c.is_left.ensures ∙ c.if-not-is_left.false) (omega (arith, p, c.if-phase-gt-CONTENTS_PHASE.true)))
 
 pub take_contents-requires : goal.take_contents-requires
 take_contents-requires c =
     let b = c.args.state.now in
+    let f = c.front_of-phase.ensures in
     let l : is_left b ≡ true = sym c.is_left.ensures ∙ c.if-not-is_left.false in
-    let h = c.if-phase-eq-CONTENTS_PHASE.true in
-    let ec = c.be2-count.ensures in
-    let ez = c.be2-size.ensures in
+    let h : get_or b 0 0 ≡ 1 = sym f.phase ∙ c.if-phase-eq-CONTENTS_PHASE.true in
     let w = in-filling b l h in
-    (rw ec (filling-tail b l h), omega (arith, w, ec, ez), omega (arith, w, ez), omega arith, omega arith, omega arith)
+    (rw f.count (filling-tail b l h), omega (arith, w, f.count, f.size), omega (arith, w, f.size), omega arith, omega arith, omega arith)
 
 pub returns-then-phase-eq-CONTENTS_PHASE : goal.returns-then-phase-eq-CONTENTS_PHASE
 returns-then-phase-eq-CONTENTS_PHASE c =
     let a = c.args in
+    let f = c.front_of-phase.ensures in
     c.take_contents.ensures
-    ∙ take-filling a.state.now a.chunk.now a.room.now (omega arith) (sym c.is_left.ensures ∙ c.if-not-is_left.false) c.if-phase-eq-CONTENTS_PHASE.true c.be2-count.ensures c.be2-size.ensures
+    ∙ take-filling a.state.now a.chunk.now a.room.now (omega arith) (sym c.is_left.ensures ∙ c.if-not-is_left.false) (sym f.phase ∙ c.if-phase-eq-CONTENTS_PHASE.true) f.count f.size
 
 pub take_header-requires : goal.take_header-requires
 take_header-requires c =
     let b = c.args.state.now in
+    let f = c.front_of-phase.ensures in
     let l : is_left b ≡ true = sym c.is_left.ensures ∙ c.if-not-is_left.false in
-    let h : get_or b 0 0 ≡ 0 = omega (arith, c.if-phase-eq-CONTENTS_PHASE.false, c.if-phase-gt-CONTENTS_PHASE.false) in
-    let ec = c.be2-count.ensures in
-    let ez = c.be2-size.ensures in
+    let h : get_or b 0 0 ≡ 0 = omega (arith, f.phase, c.if-phase-eq-CONTENTS_PHASE.false, c.if-phase-gt-CONTENTS_PHASE.false) in
     let w = in-heading b l h in
-    (heading-tail b l h, (omega (arith, w, ec), omega (arith, w, ez)), omega arith)
+    (heading-tail b l h, (omega (arith, w, f.count), omega (arith, w, f.size)), omega arith)
 
 pub returns : goal.returns
 returns c =
     let a = c.args in
-    let h : get_or a.state.now 0 0 ≡ 0 = omega (arith, c.if-phase-eq-CONTENTS_PHASE.false, c.if-phase-gt-CONTENTS_PHASE.false) in
+    let f = c.front_of-phase.ensures in
+    let h : get_or a.state.now 0 0 ≡ 0 = omega (arith, f.phase, c.if-phase-eq-CONTENTS_PHASE.false, c.if-phase-gt-CONTENTS_PHASE.false) in
     c.take_header.ensures
-    ∙ take-heading a.state.now a.chunk.now a.room.now (omega arith) (sym c.is_left.ensures ∙ c.if-not-is_left.false) h c.be2-count.ensures c.be2-size.ensures
+    ∙ take-heading a.state.now a.chunk.now a.room.now (omega arith) (sym c.is_left.ensures ∙ c.if-not-is_left.false) h f.count f.size

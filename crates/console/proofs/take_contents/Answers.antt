@@ -6,7 +6,7 @@ use Rattle.console.proofs.take_contents.Goals as goal
 pub returns-then-rest-need : goal.returns-then-rest-need
 returns-then-rest-need c =
     let a = c.args in
-    part-told c.requires.0 a.chunk.now a.room.now a.at a.size (omega arith) (omega arith) (omega arith) c.copy_in.ensures c.put_front.ensures
+    part-told c.requires.0 a.chunk.now a.room.now a.at a.size (omega arith) (omega arith) (omega arith) c.copy_in.ensures c.put.ensures
 
 pub returns : goal.returns
 returns c =

@@ -6,10 +6,10 @@ use Rattle.batch.proofs.frames.message_at.Goals as goal
 pub frame_at-requires : goal.frame_at-requires
 frame_at-requires c = omega (arith, c.requires.0)
 
-pub returns-in-Whole : goal.returns-in-Whole
-returns-in-Whole c = c.in-Whole.ensures
+pub returns-in-Ok : goal.returns-in-Ok
+returns-in-Ok c = c.in-Ok.ensures
 
-pub returns-in-Refused : goal.returns-in-Refused
-returns-in-Refused c =
+pub returns-in-Err : goal.returns-in-Err
+returns-in-Err c =
     let a = c.args in
-    absurd (goes_on a.batch.now a.at _ c.requires c.in-Refused.ensures)
+    absurd (goes_on a.batch.now a.at _ c.requires c.in-Err.ensures)

@@ -3,17 +3,17 @@ use native.Mathlib.Omega.{arith}
 use Rattle.console.proofs.HeaderLaws.{next-mark, next-other, next-length, next-long, next-sized}
 use Rattle.console.proofs.header.next_position.Goals as goal
 
-pub returns-then-octet-count : goal.returns-then-octet-count
-returns-then-octet-count c = rw c.position_at.ensures (next-mark _ _ _ (omega arith) c.if-octet-count.true)
+pub returns-then-octet-at : goal.returns-then-octet-at
+returns-then-octet-at c = next-mark _ _ (omega arith) c.if-octet-at.true
 
-pub returns-then-count-lt-MARK_OCTETS : goal.returns-then-count-lt-MARK_OCTETS
-returns-then-count-lt-MARK_OCTETS c = rw c.wrong_position.ensures (next-other _ _ _ (omega arith) c.if-octet-count.false)
+pub returns-then-at-lt-MARK_OCTETS : goal.returns-then-at-lt-MARK_OCTETS
+returns-then-at-lt-MARK_OCTETS c = next-other _ _ (omega arith) c.if-octet-at.false
 
-pub returns-then-count-eq-MARK_OCTETS : goal.returns-then-count-eq-MARK_OCTETS
-returns-then-count-eq-MARK_OCTETS c = rw c.position_at-then-count-eq-MARK_OCTETS.ensures (next-length _ _ _ c.if-count-eq-MARK_OCTETS.true (omega arith))
+pub returns-then-at-eq-MARK_OCTETS : goal.returns-then-at-eq-MARK_OCTETS
+returns-then-at-eq-MARK_OCTETS c = next-length _ _ c.if-at-eq-MARK_OCTETS.true (omega arith)
 
-pub returns-then-length-gt-MOST_OCTETS : goal.returns-then-length-gt-MOST_OCTETS
-returns-then-length-gt-MOST_OCTETS c = rw c.wrong_position-then-length-gt-MOST_OCTETS.ensures (next-long _ _ _ (omega arith) c.if-count-eq-MARK_OCTETS.false (omega arith) c.if-length-gt-MOST_OCTETS.true)
+pub returns-then-size-gt-MOST_OCTETS : goal.returns-then-size-gt-MOST_OCTETS
+returns-then-size-gt-MOST_OCTETS c = next-long _ _ (omega arith) c.if-at-eq-MARK_OCTETS.false (omega arith) c.if-size-gt-MOST_OCTETS.true
 
 pub returns : goal.returns
-returns c = rw c.position_at-2.ensures (next-sized _ _ _ (omega arith) c.if-count-eq-MARK_OCTETS.false (omega arith) (omega arith))
+returns c = next-sized _ _ (omega arith) c.if-at-eq-MARK_OCTETS.false (omega arith) (omega arith)

@@ -1,26 +1,33 @@
 -- `console::state::is_left` meets its contract: the tests of the numbers and of the zeros are those of the image. Assumes nothing.
-use mathlib.Core.Path.{sym, ◌∙◌}
+use mathlib.Core.Path.{◌∙◌}
 use native.Mathlib.Omega.{arith}
-use Rattle.console.proofs.LeftLaws.{not_left, left-bad, left-good, held_fits}
+use Rattle.console.proofs.LeftLaws.{not_left, left-bad, left-good, sound-front, held-front, front-fits}
 use Rattle.console.proofs.state.is_left.Goals as goal
 
 pub returns-then-state-ne-STATE_OCTETS : goal.returns-then-state-ne-STATE_OCTETS
 returns-then-state-ne-STATE_OCTETS c = not_left _ c.if-state-ne-STATE_OCTETS.true
 
-pub returns-then-not-numbers_ok : goal.returns-then-not-numbers_ok
-returns-then-not-numbers_ok c =
-    left-bad _ (λ i. omega (arith, c.type_inv.state i)) c.if-state-ne-STATE_OCTETS.false c.be2-count.ensures c.be2-size.ensures
-    (sym c.numbers_ok.ensures ∙ c.if-not-numbers_ok.true)
+pub returns-then-not-is_sound : goal.returns-then-not-is_sound
+returns-then-not-is_sound c =
+    let f = c.front_of-front.ensures in
+    left-bad _ (λ i. omega (arith, c.type_inv.state i)) c.if-state-ne-STATE_OCTETS.false f.count f.size
+    (sound-front f c.is_sound.ensures c.if-not-is_sound.true)
+
+pub overflow_add-held : goal.overflow_add-held
+overflow_add-held c =
+    omega (arith, front-fits c.front_of-front.result c.is_sound.ensures c.if-not-is_sound.false c.held-held.ensures)
 
 pub overflow_sub-held : goal.overflow_sub-held
 overflow_sub-held c =
-    rw c.held_in-held.ensures (held_fits _ _ c.be2-size.result (sym c.numbers_ok.ensures ∙ c.if-not-numbers_ok.false))
+    front-fits c.front_of-front.result c.is_sound.ensures c.if-not-is_sound.false c.held-held.ensures
 
 pub all_zero-requires : goal.all_zero-requires
-all_zero-requires c = omega (arith, held_fits _ _ c.be2-size.result (sym c.numbers_ok.ensures ∙ c.if-not-numbers_ok.false), c.held_in-held.ensures)
+all_zero-requires c =
+    omega (arith, front-fits c.front_of-front.result c.is_sound.ensures c.if-not-is_sound.false c.held-held.ensures)
 
 pub returns : goal.returns
 returns c =
+    let f = c.front_of-front.ensures in
     c.all_zero.ensures ∙
-    left-good _ (λ i. omega (arith, c.type_inv.state i)) c.if-state-ne-STATE_OCTETS.false c.be2-count.ensures c.be2-size.ensures
-    (sym c.numbers_ok.ensures ∙ c.if-not-numbers_ok.false) c.held_in-held.ensures
+    left-good _ (λ i. omega (arith, c.type_inv.state i)) c.if-state-ne-STATE_OCTETS.false f.count f.size
+    (sound-front f c.is_sound.ensures c.if-not-is_sound.false) (held-front f c.held-held.ensures)

@@ -1,9 +1,0 @@
--- `console::state::put_bare` meets its contract: zeros behind a front. Assumes nothing.
-use native.Mathlib.Omega.{arith}
-use Rattle.console.proofs.StateLaws.{bare-put}
-use Rattle.console.proofs.state.put_bare.Goals as goal
-
-pub returns : goal.returns
-returns c =
-    let a = c.args in
-    cc (bare-put a.saved.now a.phase a.count a.size (omega arith))
