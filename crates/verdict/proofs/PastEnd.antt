@@ -1,5 +1,16 @@
--- What is read past the end of a list of kept bindings. Assumes nothing.
+-- What is read past the end of a list of kept bindings, and a turn of a loop over one. Assumes nothing.
+use Prim.Native.Nat.{ℕ, ◌+◌, ◌<◌}
+use native.Mathlib.Numerals.{add-one}
+use mathlib.Core.Path.{◌≡◌}
+use mathlib.Core.List.{List, ◌∷◌}
+use lib.ListN.{length, drop, get_or}
+use lib.Seq.{drop-cons}
+use Rattle.std.specs.Prelude.{Result, Ok}
+use Rattle.answer.specs.declared.faults.Fault.{Fault}
 use Rattle.verdict.specs.declared.judge.Kept.{Kept}
 
-abbrev pub past_end : Kept
-past_end = record { fault = 0; place = 0; key = 0; value = 0; at = 0; len = 0 }
+abbrev pub past_end : Result Kept Fault
+past_end = Ok (record { place = 0; len = 0; at = 0; key = 0; value = 0 })
+
+pub kept_turn : (qs : List (Result Kept Fault)) (i : ℕ) → i < length qs → drop i qs ≡ get_or qs i past_end ∷ drop (i + 1) qs
+kept_turn qs i h = rw add-one (drop-cons qs i past_end h)

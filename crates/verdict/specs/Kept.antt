@@ -1,5 +1,5 @@
 -- A binding judged by itself, as the code keeps it, and what it means. Assumes nothing.
-use Rattle.std.specs.Prelude.{ℕ, ◌+◌, ◌%◌, ◌^◌, ◌<◌, ◌≤◌, ◌≡◌, Bool, true, false, cond, not, ◌||◌, ◌&&◌, List, [], ◌∷◌, map, eqb, leb, length, get_or, take}
+use Rattle.std.specs.Prelude.{ℕ, ◌+◌, ◌%◌, ◌^◌, ◌<◌, ◌≤◌, ◌≡◌, Bool, true, false, cond, not, ◌||◌, ◌&&◌, List, [], ◌∷◌, map, eqb, leb, length, get_or, Option as Maybe, Some, None, Result, Ok, Err}
 use Rattle.std.proofs.Math.Option.{Option, none, some}
 use Rattle.octets.specs.Parts.{part}
 use Rattle.octets.specs.Ports.{set_of, only_to}
@@ -11,24 +11,24 @@ use Rattle.block.specs.Content.{Content}
 use Rattle.names.specs.declared.model.Model.{Model}
 use Rattle.block.specs.declared.rows.VlanRow.{VlanRow}
 use Rattle.message.specs.Form.{content_length}
-use Rattle.message.specs.Request.{no_binding}
 use Rattle.message.specs.declared.request.Binding.{Binding}
-use Rattle.names.specs.Places.{is_timer, vlan_name, vlan_row_status, static_allowed, static_state, pair_bridge_num, pair_bridge_state}
+use Rattle.names.specs.Places.{is_timer, vlan_name, vlan_egress, vlan_forbidden, vlan_row_status, static_allowed, static_state, pair_bridge_num, pair_bridge_state}
+use Rattle.answer.specs.Faults.{number_of}
+use Rattle.answer.specs.declared.faults.Fault.{Fault}
+use Rattle.answer.specs.declared.faults.Fault.TheVariants.{WrongLength, WrongValue}
 use Rattle.answer.specs.Writes.{status, attribute}
 use Rattle.block.specs.declared.tables.Table.{Table}
 use Rattle.block.specs.declared.tables.Table.TheVariants.{Vlan as vlan, Static as static, Pair as pair}
 use Rattle.answer.specs.Tables.{create, state, destroy, name, egress, forbidden, untagged, keep, drop, allowed, paired, unpaired, bridge_number, Status, Attribute, ColumnOf, vlan_ports, makes, removes}
 use Rattle.answer.specs.Judge.{cell, row, Write, ContentSaid, wrong, right, Judged, bad, clean, among, judged}
 use Rattle.answer.specs.Respond.{asked_at}
-use Rattle.answer.specs.Set.{is_full}
-use Rattle.verdict.specs.declared.columns.Holder.{Holder}
-use Rattle.verdict.specs.declared.columns.Holder.TheVariants.{Cells, Rows}
+use Rattle.answer.specs.Set.{is_full, Verdict}
 use Rattle.verdict.specs.declared.judge.Kept.{Kept}
-use Rattle.verdict.specs.declared.judge.Said.{Said}
 use Rattle.verdict.specs.declared.faults.Act.{Act}
 use Rattle.verdict.specs.declared.faults.Act.TheVariants.{Makes, Removes, Fills}
 use Rattle.verdict.specs.declared.faults.Full.{Full}
 use Rattle.verdict.specs.declared.faults.Sets.{Sets}
+use Rattle.verdict.specs.declared.faults.Faulted.{Faulted}
 
 -- of each growing table: its first column that is written, its status column, which is the last, and whether place i is one of them
 abbrev pub first_written : Table → ℕ
@@ -44,9 +44,9 @@ status_place pair = pair_bridge_state
 abbrev pub is_column : Table → ℕ → Bool
 is_column t i = leb (first_written t) i && leb i (status_place t)
 
--- where the object at place i has its values: in the rows of the growing table that it is a column of, or in cells
-abbrev pub column_in : ℕ → Holder
-column_in i = cond (is_column vlan i) (Rows vlan) (cond (is_column static i) (Rows static) (cond (is_column pair i) (Rows pair) Cells))
+-- where the object at place i has its values: in the rows of the growing table that it is a column of, or else in cells
+abbrev pub column_in : ℕ → Maybe Table
+column_in i = cond (is_column vlan i) (Some vlan) (cond (is_column static i) (Some static) (cond (is_column pair i) (Some pair) None))
 
 -- the status that a number in a table's status column writes
 abbrev pub status_meant : (t : Table) → ℕ → Status t
@@ -64,65 +64,52 @@ abbrev pub column_at : (t : Table) → (i v : ℕ) → List ℕ → ColumnOf t
 column_at t i v xs = cond (eqb i (status_place t)) (status (status_meant t v)) (attribute (attribute_said t i v xs))
 
 -- what the object at place i writes at the key k
-abbrev pub written_to : Holder → (i k v : ℕ) → List ℕ → Write
-written_to Cells i k v xs = cell i k v
-written_to (Rows t) i k v xs = row t k (column_at t i v xs)
+abbrev pub written_to : Maybe Table → (i k v : ℕ) → List ℕ → Write
+written_to None i k v xs = cell i k v
+written_to (Some t) i k v xs = row t k (column_at t i v xs)
 
 abbrev pub written_as : (i k v : ℕ) → List ℕ → Write
 written_as i k v xs = written_to (column_in i) i k v xs
 
 -- what the content xs of the object at place i says
-abbrev pub content_said_of : ℕ → List ℕ → Said → ContentSaid
-content_said_of i xs q = cond (eqb q.fault 0) (right (λ k. written_as i k q.value xs)) (wrong q.fault)
+abbrev pub content_said_of : ℕ → List ℕ → Result ℕ Fault → ContentSaid
+content_said_of i xs (Ok v) = right (λ k. written_as i k v xs)
+content_said_of i xs (Err f) = wrong (number_of f)
 
 -- what a number, in an edition, and a port set, on a bridge of a model, say
 abbrev pub number_ok : ℕ → ℕ → ℕ → Bool
 number_ok e i v = takes e (object_at i) v && not (eqb i vlan_row_status && eqb v 3)
 
-abbrev pub wrongly : ℕ → Said
-wrongly f = record { fault = f; value = 0 }
+abbrev pub said_number : ℕ → ℕ → ℕ → Result ℕ Fault
+said_number e i v = cond (number_ok e i v) (Ok v) (Err WrongValue)
 
-abbrev pub rightly : ℕ → Said
-rightly v = record { fault = 0; value = v }
+abbrev pub said_ports : Model → List ℕ → Result ℕ Fault
+said_ports m xs = cond (leb (length xs) 8) (cond (only_to 64 m.ports (set_of xs)) (Ok (set_of xs)) (Err WrongValue)) (Err WrongLength)
 
-abbrev pub said_number : ℕ → ℕ → ℕ → Said
-said_number e i v = cond (number_ok e i v) (rightly v) (wrongly 10)
+-- a clean binding, as the code keeps it, that names the instance of the object at place i that has the key k and writes v
+abbrev pub kept_of : (i k v : ℕ) → Binding → Kept
+kept_of i k v b = record { place = i; len = b.len; at = b.content; key = k; value = v }
 
-abbrev pub said_ports : Model → List ℕ → Said
-said_ports m xs = cond (leb (length xs) 8) (cond (only_to 64 m.ports (set_of xs)) (rightly (set_of xs)) (wrongly 10)) (wrongly 8)
-
--- a binding at fault as the code keeps it; one whose name has no index that the bridge can have, by what its content says; and one that names the instance of the
--- object at place i that has the key k
-abbrev pub kept_fault : ℕ → Kept
-kept_fault f = record { fault = f; place = 0; len = 0; at = 0; key = 0; value = 0 }
-
-abbrev pub kept_rowless : Said → Kept
-kept_rowless q = kept_fault (cond (eqb q.fault 0) 11 q.fault)
-
-abbrev pub kept_of : (i k : ℕ) → Said → Binding → Kept
-kept_of i k q b =
-    cond (eqb q.fault 0) (record { fault = 0; place = i; len = b.len; at = b.content; key = k; value = q.value }) (kept_fault q.fault)
-
--- a kept binding of a request s as a judged binding; the row that it names is left out, since no fault and no change reads it
-abbrev pub meant : List ℕ → Kept → Judged
-meant s q =
-    cond (eqb q.fault 0) (clean (0, 0) (written_as q.place q.key q.value (part s q.at q.len))) (bad q.fault none)
+-- what is kept of a binding of a request s as a judged binding; the row that it names is left out, since no fault and no change reads it
+abbrev pub meant : List ℕ → Result Kept Fault → Judged
+meant s (Ok q) = clean (0, 0) (written_as q.place q.key q.value (part s q.at q.len))
+meant s (Err f) = bad (number_of f) none
 
 abbrev pub bare : Judged → Judged
 bare (bad f t) = bad f none
 bare (clean t w) = clean (0, 0) w
 
--- the first count kept bindings of a request s
-abbrev pub meant_by : List ℕ → List Kept → ℕ → List Judged
-meant_by s kept count = map (meant s) (take count kept)
+-- what is kept of the bindings of a request s
+abbrev pub meant_by : List ℕ → List (Result Kept Fault) → List Judged
+meant_by s kept = map (meant s) kept
 
--- the first count bindings of a request s, judged
-abbrev pub judged_in : Model → List ℕ → List Binding → ℕ → List Judged
-judged_in m s bs count = judged m (map (asked_at s) (take count bs))
+-- the bindings of a request s, judged
+abbrev pub judged_in : Model → List ℕ → List Binding → List Judged
+judged_in m s bs = judged m (map (asked_at s) bs)
 
--- whether the name of binding i stands in an earlier one
-abbrev pub named_before : List ℕ → List Binding → ℕ → Bool
-named_before s bs i = among (asked_at s (get_or bs i no_binding)).name (map (λ b. (asked_at s b).name) (take i bs))
+-- whether the name of a binding stands in an earlier one
+abbrev pub named_before : List ℕ → List Binding → Binding → Bool
+named_before s earlier b = among (asked_at s b).name (map (λ e. (asked_at s e).name) earlier)
 
 -- what the code asks of a binding of a set that was read from s: "name, 2 to 128 sub-ids of 4 octets", "21 integer (4 octets), 22 string (0 to 255), .."; its place
 -- has two octets, since a "request over 1,472 octets" is refused
@@ -135,16 +122,24 @@ pub record Stands (s : List ℕ) (b : Binding) : Type 0 where
   pub tagged : (0x21 ≤ b.tag) × (b.tag ≤ 0x24)
   pub sized : content_length b.tag b.len ≡ true
 
-pub record AllStand (s : List ℕ) (bs : List Binding) (count : ℕ) : Type 0 where
-  pub few : count ≤ 16
-  pub each : (i : ℕ) (d : Binding) → i < count → Stands s (get_or bs i d)
+pub record AllStand (s : List ℕ) (bs : List Binding) : Type 0 where
+  pub few : length bs ≤ 16
+  pub each : (i : ℕ) (d : Binding) → i < length bs → Stands s (get_or bs i d)
+
+-- the content of what is kept of a binding stands in the request
+abbrev pub Within : List ℕ → Result Kept Fault → Type 0
+Within s (Ok q) = q.at + q.len ≤ length s
+Within s (Err f) = Unit {0}
+
+abbrev pub AllWithin : List ℕ → List (Result Kept Fault) → Type 0
+AllWithin s kept = (i : ℕ) (d : Result Kept Fault) → i < length kept → Within s (get_or kept i d)
 
 -- a kept binding that writes the status column of a table, and one that writes another of its columns
 abbrev pub is_status_of : Table → Kept → Bool
-is_status_of t q = eqb q.fault 0 && eqb q.place (status_place t)
+is_status_of t q = eqb q.place (status_place t)
 
 abbrev pub is_attribute_of : Table → Kept → Bool
-is_attribute_of t q = eqb q.fault 0 && (is_column t q.place && not (eqb q.place (status_place t)))
+is_attribute_of t q = is_column t q.place && not (eqb q.place (status_place t))
 
 -- what a kept binding does to the row that it names in a table: its status makes the row, or removes it, or it writes another column
 abbrev pub does : Act → Table → Kept → Bool
@@ -152,19 +147,26 @@ does Makes t q = is_status_of t q && makes t (status_meant t q.value)
 does Removes t q = is_status_of t q && removes t (status_meant t q.value)
 does Fills t q = is_attribute_of t q
 
--- is there a kept binding that does so to the row k of a table
-unfoldable pub is_done : Act → Table → (k : ℕ) → List Kept → Bool
+-- whether what is kept of a binding is of a clean one that passes a test
+abbrev pub if_clean : (Kept → Bool) → Result Kept Fault → Bool
+if_clean p (Ok q) = p q
+if_clean p (Err f) = false
+
+-- is there a clean binding that does so to the row k of a table
+unfoldable pub is_done : Act → Table → (k : ℕ) → List (Result Kept Fault) → Bool
 is_done a t k [] = false
-is_done a t k (q ∷ qs) = (eqb k q.key && does a t q) || is_done a t k qs
+is_done a t k (q ∷ qs) = if_clean (λ q. eqb k q.key && does a t q) q || is_done a t k qs
 
--- the rows of a table that kept bindings make and remove, by which keys are there: one number for each
-unfoldable pub made : (t : Table) → (there : ℕ → Bool) → List Kept → ℕ
+-- the rows of a table that clean bindings make and remove, by which keys are there: one number for each
+unfoldable pub made : (t : Table) → (there : ℕ → Bool) → List (Result Kept Fault) → ℕ
 made t there [] = 0
-made t there (q ∷ qs) = cond (is_status_of t q && (makes t (status_meant t q.value) && not (there q.key))) 1 0 + made t there qs
+made t there (q ∷ qs) =
+    cond (if_clean (λ q. is_status_of t q && (makes t (status_meant t q.value) && not (there q.key))) q) 1 0 + made t there qs
 
-unfoldable pub removed : (t : Table) → (there : ℕ → Bool) → List Kept → ℕ
+unfoldable pub removed : (t : Table) → (there : ℕ → Bool) → List (Result Kept Fault) → ℕ
 removed t there [] = 0
-removed t there (q ∷ qs) = cond (is_status_of t q && (removes t (status_meant t q.value) && there q.key)) 1 0 + removed t there qs
+removed t there (q ∷ qs) =
+    cond (if_clean (λ q. is_status_of t q && (removes t (status_meant t q.value) && there q.key)) q) 1 0 + removed t there qs
 
 -- whether each growing table would have more rows than there is room for, and what this says of one of them
 abbrev pub full_in : Content → List Judged → Full
@@ -176,9 +178,18 @@ full_of f static = f.statics
 full_of f pair = f.pairs
 
 -- Egress and Forbidden of a row that may be there
-abbrev pub sets_of : Option VlanRow → Sets
-sets_of none = record { there = false; egress = 0; forbidden = 0 }
-sets_of (some r) = record { there = true; egress = r.egress; forbidden = r.forbidden }
+abbrev pub sets_of : Option VlanRow → Maybe Sets
+sets_of none = None
+sets_of (some r) = Some (record { egress = r.egress; forbidden = r.forbidden })
+
+-- and after a clean binding of a column that is no status
+abbrev pub attribute_sets : Kept → Sets → Sets
+attribute_sets q x = record { egress = cond (eqb q.place vlan_egress) q.value x.egress; forbidden = cond (eqb q.place vlan_forbidden) q.value x.forbidden }
+
+-- status and index of the lowest binding at fault, if one is
+abbrev pub verdict_as : Result Unit Faulted → Verdict
+verdict_as (Ok u) = record { status = 0; index = 0 }
+verdict_as (Err e) = record { status = number_of e.fault; index = e.index }
 
 -- what the code asks of a write: its numbers have room in the block's octets
 abbrev pub key_room : Table → ℕ
@@ -210,14 +221,16 @@ JudgedFits (bad f g) = Unit {0}
 JudgedFits (clean g (cell i k v)) = (i < object_count) × (k < 1024) × (cell_of i k < many_cells) × (v < 2 ^ 32) × OwnCell i k
 JudgedFits (clean g (row t k x)) = (k < key_room t) × ColumnFits t x
 
--- what the code asks of the first count kept bindings of a request s
-pub record KeptFit (s : List ℕ) (kept : List Kept) (count : ℕ) : Type 0 where
-  pub fits : (i : ℕ) (d : Kept) → i < count → JudgedFits (meant s (get_or kept i d))
-  pub within : (i : ℕ) (d : Kept) → i < count → (get_or kept i d).at + (get_or kept i d).len ≤ length s
+-- what the code asks of what is kept of the bindings of a request s
+pub record KeptFit (s : List ℕ) (kept : List (Result Kept Fault)) : Type 0 where
+  pub fits : (i : ℕ) (d : Result Kept Fault) → i < length kept → JudgedFits (meant s (get_or kept i d))
+  pub within : AllWithin s kept
 
--- what the code asks of the first count kept bindings before it reads timers from them: the number of a clean kept binding that writes a cell has room in four octets, and its
--- place tells whether the cell is a timer's
-abbrev pub TimersFit : List Kept → ℕ → Type 0
-TimersFit kept count =
-    (i : ℕ) (d : Kept) → i < count → (get_or kept i d).fault ≡ 0 → column_in (get_or kept i d).place ≡ Cells
-    → ((get_or kept i d).value < 2 ^ 32) × OwnCell (get_or kept i d).place (get_or kept i d).key
+-- what the code asks before it reads timers from kept bindings: the number of a clean binding that writes a cell has room in four octets, and its place tells
+-- whether the cell is a timer's
+abbrev pub TimerFits : Result Kept Fault → Type 0
+TimerFits (Ok q) = column_in q.place ≡ None → (q.value < 2 ^ 32) × OwnCell q.place q.key
+TimerFits (Err f) = Unit {0}
+
+abbrev pub TimersFit : List (Result Kept Fault) → Type 0
+TimersFit kept = (i : ℕ) (d : Result Kept Fault) → i < length kept → TimerFits (get_or kept i d)

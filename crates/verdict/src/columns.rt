@@ -9,13 +9,6 @@ use names::places::{
     PAIR_BRIDGE_NUM, PAIR_BRIDGE_STATE, STATIC_ALLOWED, STATIC_STATE, VLAN_NAME, VLAN_ROW_STATUS,
 };
 
-// Where an object has its values: in cells, or in the rows of a growing table.
-#[derive(Drop)]
-pub enum Holder {
-    Cells,
-    Rows(Table),
-}
-
 // The place of a table's status column.
 pub fn status_place(t: Table) -> usize
     ensures { result ≡ status_place t }
@@ -45,35 +38,35 @@ fn is_column(t: Table, place: usize) -> bool
     (first_written(t) <= place) & (place <= status_place(t))
 }
 
-// Where the object at a place has its values.
-pub fn column_in(place: usize) -> Holder
+// The growing table in whose rows the object at a place has its values; None where it has them in cells.
+pub fn column_in(place: usize) -> Option<Table>
     ensures { result ≡ column_in place }
 {
     if is_column(Table::Vlan, place) {
-        return Holder::Rows(Table::Vlan);
+        return Some(Table::Vlan);
     }
     if is_column(Table::Static, place) {
-        return Holder::Rows(Table::Static);
+        return Some(Table::Static);
     }
     if is_column(Table::Pair, place) {
-        return Holder::Rows(Table::Pair);
+        return Some(Table::Pair);
     }
-    Holder::Cells
+    None
 }
 
 // Whether a kept binding writes the status column of a table.
 pub fn is_status_of(t: Table, q: Kept) -> bool
     ensures { result ≡ is_status_of t q }
 {
-    (q.fault == 0) & (q.place as usize == status_place(t))
+    q.place as usize == status_place(t)
 }
 
 // Whether it writes another column of the table.
-pub fn is_attribute_of(t: Table, q: Kept) -> bool
+pub(crate) fn is_attribute_of(t: Table, q: Kept) -> bool
     ensures { result ≡ is_attribute_of t q }
 {
     let place = q.place as usize;
-    (q.fault == 0) & (is_column(t, place) & (place != status_place(t)))
+    is_column(t, place) & (place != status_place(t))
 }
 
 // Whether a number in a table's status column makes an absent row.

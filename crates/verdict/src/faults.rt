@@ -1,5 +1,5 @@
 // The faults of a message: those of each binding by itself, and 18, 12 and 13, which the rows before and the clean bindings decide.
-ghost use Rattle.std.specs.Prelude.{◌≡◌, ℕ, ◌≤◌, true, not, List, take};
+ghost use Rattle.std.specs.Prelude.{◌≡◌, ℕ, ◌≤◌, true, not, List, length, Some, Ok};
 ghost use Rattle.std.proofs.Math.Option.{Option};
 ghost use Rattle.names.specs.Places.{is_timer};
 ghost use Rattle.octets.specs.Parts.{part};
@@ -13,19 +13,18 @@ ghost use Rattle.block.specs.declared.rows.VlanRow.{VlanRow};
 ghost use Rattle.answer.specs.Writes.{is_status, those, play_row};
 ghost use Rattle.block.specs.Tables.{rows_of};
 ghost use Rattle.block.specs.declared.tables.Table.TheVariants.{Vlan as vlan};
+ghost use Rattle.answer.specs.Faults.{fault_in};
 ghost use Rattle.answer.specs.Tables.{status_step, step, lacking, clash};
 ghost use Rattle.answer.specs.Set.{writes_to, attribute_fault, status_fault, resulting, row_fault, is_full, resulting_cells, cell_fault, fault, verdict};
-ghost use Rattle.verdict.specs.Kept.{is_column, status_meant, column_at, meant, meant_by, does, is_done, full_in, full_of, sets_of, TimersFit};
+ghost use Rattle.verdict.specs.Kept.{is_column, status_meant, column_at, meant, meant_by, does, is_done, full_in, full_of, sets_of, attribute_sets, verdict_as, TimersFit};
 ghost use Rattle.verdict.specs.declared.faults.Act.TheVariants.{Fills};
 
 use super::columns::{
-    Holder, column_in, is_attribute_of, is_misplaced, is_status_of, makes_row, removes_row,
-    status_place,
+    column_in, is_attribute_of, is_misplaced, is_status_of, makes_row, removes_row, status_place,
 };
 use super::judge::Kept;
-use answer::faults::{INCONSISTENT_NAME, INCONSISTENT_VALUE, RESOURCE_UNAVAILABLE};
+use answer::faults::Fault;
 use block::reads::{timer, vlan};
-use block::rows::Place;
 use block::tables::{Table, find_row, row_count, standing_of};
 use instances::has_row;
 use legality::belong_together;
@@ -34,10 +33,9 @@ use names::places::{
 };
 use octets::ports::are_disjoint;
 
-// Egress and Forbidden of a VLAN row that may be there.
+// Egress and Forbidden of a VLAN row.
 #[derive(Clone, Copy, Drop)]
 pub struct Sets {
-    pub there: bool,
     pub egress: u64,
     pub forbidden: u64,
 }
@@ -58,10 +56,22 @@ pub struct Full {
     pub pairs: bool,
 }
 
-// The status and index of an answer.
-#[derive(Drop)]
-pub struct Verdict {
-    pub status: u8,
+impl Full {
+    fn of(self, t: Table) -> bool
+        ensures { result ≡ full_of self t }
+    {
+        match t {
+            Table::Vlan => self.vlans,
+            Table::Static => self.statics,
+            Table::Pair => self.pairs,
+        }
+    }
+}
+
+// The lowest binding at fault: its fault, and its index from 1 on.
+#[derive(Clone, Copy, Drop)]
+pub struct Faulted {
+    pub fault: Fault,
     pub index: u8,
 }
 
@@ -76,165 +86,163 @@ fn does_to(act: Act, t: Table, q: Kept) -> bool
     }
 }
 
-// Whether some binding does so to a row of a table.
-fn is_done(kept: [Kept; 16], count: usize, act: Act, t: Table, key: u64) -> bool
-    requires { count ≤ 16 }
-    ensures { result ≡ is_done act t key (take count kept) }
+// Whether some clean binding does so to a row of a table.
+fn is_done(kept: &[Result<Kept, Fault>], act: Act, t: Table, key: u64) -> bool
+    ensures { result ≡ is_done act t key kept.now }
 {
-    let mut i = 0;
-    while i < count {
-        let q = kept[i];
-        if (key == q.key) & does_to(act, t, q) {
-            return true;
+    for k in kept {
+        if let Ok(q) = *k {
+            if (key == q.key) & does_to(act, t, q) {
+                return true;
+            }
         }
-        i += 1;
     }
     false
 }
 
 // Whether a table would have more rows than there is room for.
-fn is_full(block: &[u8], t: Table, kept: [Kept; 16], count: usize) -> bool
-    requires { (legal block.now ≡ true) × (count ≤ 16) }
-    ensures { (s : List ℕ) → result ≡ is_full t (content_of block.now) (meant_by s kept count) }
+fn is_full(block: &[u8], t: Table, kept: &[Result<Kept, Fault>]) -> bool
+    requires { (legal block.now ≡ true) × (length kept.now ≤ 16) }
+    ensures { (s : List ℕ) → result ≡ is_full t (content_of block.now) (meant_by s kept.now) }
 {
     let at = standing_of(t);
     let mut rows = row_count(block, t);
     let mut room = at.most;
-    let mut i = 0;
-    while i < count {
-        let q = kept[i];
-        if is_status_of(t, q) {
-            let there = has_row(block, t, q.key);
-            if makes_row(t, q.value) & !there {
-                rows += 1;
-            }
-            if removes_row(t, q.value) & there {
-                room += 1;
+    for k in kept {
+        if let Ok(q) = *k {
+            if is_status_of(t, q) {
+                let there = has_row(block, t, q.key);
+                if makes_row(t, q.value) & !there {
+                    rows += 1;
+                }
+                if removes_row(t, q.value) & there {
+                    room += 1;
+                }
             }
         }
-        i += 1;
     }
     room < rows
 }
 
 // Egress and Forbidden of the row before.
-fn sets_before(block: &[u8], key: u64) -> Sets
+fn sets_before(block: &[u8], key: u64) -> Option<Sets>
     requires { legal block.now ≡ true }
     ensures { result ≡ sets_of (lookup key (content_of block.now).vlans) }
 {
-    let place = find_row(block, Table::Vlan, key);
-    match place {
-        Place::At(i) => {
+    match find_row(block, Table::Vlan, key) {
+        Ok(i) => {
             let row = vlan(block, i);
-            Sets {
-                there: true,
+            Some(Sets {
                 egress: row.egress,
                 forbidden: row.forbidden,
-            }
+            })
         }
-        Place::Absent(_) => Sets {
-            there: false,
-            egress: 0,
-            forbidden: 0,
-        },
+        Err(_) => None,
     }
 }
 
-// What a number in RowStatus makes of them.
-fn with_status(sets: Sets, v: u64) -> Sets
+// What a number in RowStatus makes of them: a row that is made has no ports.
+fn with_status(sets: Option<Sets>, v: u64) -> Option<Sets>
     ensures { (m : Model) (k : ℕ) (o : Option VlanRow) → sets ≡ sets_of o → result ≡ sets_of (status_step m vlan k (status_meant vlan v) o) }
 {
     if removes_row(Table::Vlan, v) {
-        return Sets {
-            there: false,
+        return None;
+    }
+    if makes_row(Table::Vlan, v) {
+        return sets.or(Some(Sets {
             egress: 0,
             forbidden: 0,
-        };
+        }));
     }
-    Sets {
-        there: sets.there | makes_row(Table::Vlan, v),
-        egress: sets.egress,
-        forbidden: sets.forbidden,
-    }
+    sets
 }
 
 // After the status columns of a message.
-fn after_statuses(sets: Sets, kept: [Kept; 16], count: usize, key: u64) -> Sets
-    requires { count ≤ 16 }
-    ensures { (m : Model) (s : List ℕ) (o : Option VlanRow) → sets ≡ sets_of o → result ≡ sets_of (play_row (step m vlan) key (those is_status (writes_to vlan (meant_by s kept count))) o) }
+fn after_statuses(sets: Option<Sets>, kept: &[Result<Kept, Fault>], key: u64) -> Option<Sets>
+    ensures { (m : Model) (s : List ℕ) (o : Option VlanRow) → sets ≡ sets_of o → result ≡ sets_of (play_row (step m vlan) key (those is_status (writes_to vlan (meant_by s kept.now))) o) }
 {
     let mut after = sets;
-    let mut i = 0;
-    while i < count {
-        let q = kept[i];
-        if is_status_of(Table::Vlan, q) & (key == q.key) {
-            after = with_status(after, q.value);
+    for k in kept {
+        if let Ok(q) = *k {
+            if is_status_of(Table::Vlan, q) & (key == q.key) {
+                after = with_status(after, q.value);
+            }
         }
-        i += 1;
     }
     after
 }
 
-// After the other columns of a message.
-fn after_attributes(sets: Sets, kept: [Kept; 16], count: usize, key: u64) -> Sets
-    requires { count ≤ 16 }
-    ensures { (m : Model) (s : List ℕ) (o : Option VlanRow) → sets ≡ sets_of o → result ≡ sets_of (play_row (step m vlan) key (those (λ c. not (is_status c)) (writes_to vlan (meant_by s kept count))) o) }
+// What a column that is no status makes of them.
+fn with_attribute(sets: Sets, q: Kept) -> Sets
+    ensures { result ≡ attribute_sets q sets }
 {
-    let mut egress = sets.egress;
-    let mut forbidden = sets.forbidden;
-    let mut i = 0;
-    while i < count {
-        let q = kept[i];
-        let here = (q.fault == 0) & (sets.there & (key == q.key));
-        if here & (q.place as usize == VLAN_EGRESS) {
-            egress = q.value;
-        }
-        if here & (q.place as usize == VLAN_FORBIDDEN) {
-            forbidden = q.value;
-        }
-        i += 1;
+    let place = q.place as usize;
+    match place {
+        VLAN_EGRESS => Sets {
+            egress: q.value,
+            forbidden: sets.forbidden,
+        },
+        VLAN_FORBIDDEN => Sets {
+            egress: sets.egress,
+            forbidden: q.value,
+        },
+        _ => sets,
     }
-    Sets {
-        there: sets.there,
-        egress: egress,
-        forbidden: forbidden,
+}
+
+// After the other columns of a message, of a row that is there.
+fn after_attributes(sets: Sets, kept: &[Result<Kept, Fault>], key: u64) -> Sets
+    ensures { (m : Model) (s : List ℕ) (o : Option VlanRow) → Some sets ≡ sets_of o → Some result ≡ sets_of (play_row (step m vlan) key (those (λ c. not (is_status c)) (writes_to vlan (meant_by s kept.now))) o) }
+{
+    let mut after = sets;
+    for k in kept {
+        if let Ok(q) = *k {
+            if key == q.key {
+                after = with_attribute(after, q);
+            }
+        }
     }
+    after
 }
 
 // Whether the resulting row shares a port between Egress and Forbidden.
-fn shares_port(block: &[u8], kept: [Kept; 16], count: usize, key: u64) -> bool
-    requires { (legal block.now ≡ true) × (count ≤ 16) }
-    ensures { (m : Model) (s : List ℕ) → result ≡ clash (resulting m vlan (writes_to vlan (meant_by s kept count)) key (lookup key (content_of block.now).vlans)) }
+fn shares_port(block: &[u8], kept: &[Result<Kept, Fault>], key: u64) -> bool
+    requires { legal block.now ≡ true }
+    ensures { (m : Model) (s : List ℕ) → result ≡ clash (resulting m vlan (writes_to vlan (meant_by s kept.now)) key (lookup key (content_of block.now).vlans)) }
 {
     let before = sets_before(block, key);
-    let made = after_statuses(before, kept, count, key);
-    let sets = after_attributes(made, kept, count, key);
-    sets.there & !are_disjoint(sets.egress, sets.forbidden)
+    let made = after_statuses(before, kept, key);
+    match made {
+        None => false,
+        Some(made) => {
+            let sets = after_attributes(made, kept, key);
+            !are_disjoint(sets.egress, sets.forbidden)
+        }
+    }
 }
 
-fn attribute_fault(there: bool, made: bool, removed: bool, clash: bool) -> u8
-    ensures { result ≡ attribute_fault there made removed clash }
+fn attribute_fault(there: bool, made: bool, removed: bool, clash: bool) -> Result<(), Fault>
+    ensures { fault_in result ≡ attribute_fault there made removed clash }
 {
     if there | made {
         if (there & removed) | clash {
-            return INCONSISTENT_VALUE;
+            return Err(Fault::InconsistentValue);
         }
-        return 0;
+        return Ok(());
     }
-    INCONSISTENT_NAME
+    Err(Fault::InconsistentName)
 }
 
 // Whether a number in a table's status column makes an absent row without a column that it needs: the bridge number of a pair (E12).
-fn lacks_column(kept: [Kept; 16], count: usize, t: Table, key: u64, v: u64, there: bool) -> bool
-    requires { count ≤ 16 }
-    ensures { result ≡ lacking t (status_meant t v) there (is_done Fills t key (take count kept)) }
+fn lacks_column(kept: &[Result<Kept, Fault>], t: Table, key: u64, v: u64, there: bool) -> bool
+    ensures { result ≡ lacking t (status_meant t v) there (is_done Fills t key kept.now) }
 {
     match t {
         Table::Vlan => false,
         Table::Static => false,
         Table::Pair => {
             if makes_row(t, v) & !there {
-                return !is_done(kept, count, Act::Fills, t, key);
+                return !is_done(kept, Act::Fills, t, key);
             }
             false
         }
@@ -242,138 +250,130 @@ fn lacks_column(kept: [Kept; 16], count: usize, t: Table, key: u64, v: u64, ther
 }
 
 // The fault of a status column's number, by whether it does not go with its row, makes it, whether the row is there and whether the table passes its room.
-fn status_fault(misplaced: bool, making: bool, there: bool, full: bool) -> u8
-    ensures { result ≡ status_fault misplaced making there full }
+fn status_fault(misplaced: bool, making: bool, there: bool, full: bool) -> Result<(), Fault>
+    ensures { fault_in result ≡ status_fault misplaced making there full }
 {
     if misplaced {
-        return INCONSISTENT_VALUE;
+        return Err(Fault::InconsistentValue);
     }
     if (making & !there) & full {
-        return RESOURCE_UNAVAILABLE;
+        return Err(Fault::ResourceUnavailable);
     }
-    0
+    Ok(())
 }
 
 // The fault of a clean binding of a column of a table.
-fn row_fault(block: &[u8], t: Table, kept: [Kept; 16], count: usize, full: bool, q: Kept) -> u8
-    requires { (legal block.now ≡ true) × (count ≤ 16) }
-    ensures { (s : List ℕ) → is_column t q.place ≡ true → result ≡ row_fault (model_of (content_of block.now)) t full (writes_to t (meant_by s kept count)) q.key (column_at t q.place q.value (part s q.at q.len)) (lookup q.key (rows_of t (content_of block.now))) }
+fn row_fault(
+    block: &[u8],
+    t: Table,
+    kept: &[Result<Kept, Fault>],
+    full: bool,
+    q: Kept,
+) -> Result<(), Fault>
+    requires { legal block.now ≡ true }
+    ensures { (s : List ℕ) → is_column t q.place ≡ true → fault_in result ≡ row_fault (model_of (content_of block.now)) t full (writes_to t (meant_by s kept.now)) q.key (column_at t q.place q.value (part s q.at q.len)) (lookup q.key (rows_of t (content_of block.now))) }
 {
     let key = q.key;
     let place = q.place as usize;
     let there = has_row(block, t, key);
     if place == status_place(t) {
         let v = q.value;
-        let misplaced = is_misplaced(t, v, there) | lacks_column(kept, count, t, key, v, there);
+        let misplaced = is_misplaced(t, v, there) | lacks_column(kept, t, key, v, there);
         return status_fault(misplaced, makes_row(t, v), there, full);
     }
-    let made = is_done(kept, count, Act::Makes, t, key);
-    let removed = is_done(kept, count, Act::Removes, t, key);
+    let made = is_done(kept, Act::Makes, t, key);
+    let removed = is_done(kept, Act::Removes, t, key);
     if (place == VLAN_EGRESS) | (place == VLAN_FORBIDDEN) {
-        return attribute_fault(there, made, removed, shares_port(block, kept, count, key));
+        return attribute_fault(there, made, removed, shares_port(block, kept, key));
     }
     attribute_fault(there, made, removed, false)
 }
 
 // The timer at a place after the clean kept bindings: the number of the kept binding that writes it, or the block's.
-fn resulting_timer(block: &[u8], kept: [Kept; 16], count: usize, place: usize) -> u32
-    requires { (legal block.now ≡ true) × (count ≤ 16) × TimersFit kept count × (is_timer place ≡ true) }
-    ensures { (s : List ℕ) → result ≡ timer_in (resulting_cells (content_of block.now) (meant_by s kept count)) place }
+fn resulting_timer(block: &[u8], kept: &[Result<Kept, Fault>], place: usize) -> u32
+    requires { (legal block.now ≡ true) × TimersFit kept.now × (is_timer place ≡ true) }
+    ensures { (s : List ℕ) → result ≡ timer_in (resulting_cells (content_of block.now) (meant_by s kept.now)) place }
 {
     let mut value = timer(block, place);
-    let mut i = 0;
-    while i < count {
-        let q = kept[i];
-        if (q.fault == 0) & (q.place as usize == place) {
-            value = q.value as u32;
+    for k in kept {
+        if let Ok(q) = *k {
+            if q.place as usize == place {
+                value = q.value as u32;
+            }
         }
-        i += 1;
     }
     value
 }
 
 // Whether the three timers belong together after the clean kept bindings.
-fn timers_agree(block: &[u8], kept: [Kept; 16], count: usize) -> bool
-    requires { (legal block.now ≡ true) × (count ≤ 16) × TimersFit kept count }
-    ensures { (s : List ℕ) → result ≡ timers_ok (resulting_cells (content_of block.now) (meant_by s kept count)) }
+fn timers_agree(block: &[u8], kept: &[Result<Kept, Fault>]) -> bool
+    requires { (legal block.now ≡ true) × TimersFit kept.now }
+    ensures { (s : List ℕ) → result ≡ timers_ok (resulting_cells (content_of block.now) (meant_by s kept.now)) }
 {
-    let age = resulting_timer(block, kept, count, BRIDGE_MAX_AGE);
-    let hello = resulting_timer(block, kept, count, BRIDGE_HELLO_TIME);
-    let delay = resulting_timer(block, kept, count, BRIDGE_FORWARD_DELAY);
+    let age = resulting_timer(block, kept, BRIDGE_MAX_AGE);
+    let hello = resulting_timer(block, kept, BRIDGE_HELLO_TIME);
+    let delay = resulting_timer(block, kept, BRIDGE_FORWARD_DELAY);
     belong_together(age, hello, delay)
 }
 
 // The fault of a clean binding of the object at a place that has a cell.
-fn cell_fault(block: &[u8], kept: [Kept; 16], count: usize, place: usize) -> u8
-    requires { (legal block.now ≡ true) × (count ≤ 16) × TimersFit kept count }
-    ensures { (s : List ℕ) → result ≡ cell_fault place (resulting_cells (content_of block.now) (meant_by s kept count)) }
+fn cell_fault(block: &[u8], kept: &[Result<Kept, Fault>], place: usize) -> Result<(), Fault>
+    requires { (legal block.now ≡ true) × TimersFit kept.now }
+    ensures { (s : List ℕ) → fault_in result ≡ cell_fault place (resulting_cells (content_of block.now) (meant_by s kept.now)) }
 {
     if !is_timer(place) {
-        return 0;
+        return Ok(());
     }
-    if timers_agree(block, kept, count) {
-        return 0;
+    if timers_agree(block, kept) {
+        return Ok(());
     }
-    INCONSISTENT_VALUE
+    Err(Fault::InconsistentValue)
 }
 
 // Which tables would have more rows than there is room for.
-fn full_in(block: &[u8], kept: [Kept; 16], count: usize) -> Full
-    requires { (legal block.now ≡ true) × (count ≤ 16) }
-    ensures { (s : List ℕ) → result ≡ full_in (content_of block.now) (meant_by s kept count) }
+fn full_in(block: &[u8], kept: &[Result<Kept, Fault>]) -> Full
+    requires { (legal block.now ≡ true) × (length kept.now ≤ 16) }
+    ensures { (s : List ℕ) → result ≡ full_in (content_of block.now) (meant_by s kept.now) }
 {
     Full {
-        vlans: is_full(block, Table::Vlan, kept, count),
-        statics: is_full(block, Table::Static, kept, count),
-        pairs: is_full(block, Table::Pair, kept, count),
-    }
-}
-
-fn full_of(full: Full, t: Table) -> bool
-    ensures { result ≡ full_of full t }
-{
-    match t {
-        Table::Vlan => full.vlans,
-        Table::Static => full.statics,
-        Table::Pair => full.pairs,
+        vlans: is_full(block, Table::Vlan, kept),
+        statics: is_full(block, Table::Static, kept),
+        pairs: is_full(block, Table::Pair, kept),
     }
 }
 
 // The first fault of a binding, by which tables pass their room.
-fn fault_of(block: &[u8], kept: [Kept; 16], count: usize, full: Full, q: Kept) -> u8
-    requires { (legal block.now ≡ true) × (count ≤ 16) × TimersFit kept count }
-    ensures { (s : List ℕ) → full ≡ full_in (content_of block.now) (meant_by s kept count) → result ≡ fault (content_of block.now) (meant_by s kept count) (meant s q) }
+fn fault_of(
+    block: &[u8],
+    kept: &[Result<Kept, Fault>],
+    full: Full,
+    k: Result<Kept, Fault>,
+) -> Result<(), Fault>
+    requires { (legal block.now ≡ true) × TimersFit kept.now }
+    ensures { (s : List ℕ) → full ≡ full_in (content_of block.now) (meant_by s kept.now) → fault_in result ≡ fault (content_of block.now) (meant_by s kept.now) (meant s k) }
 {
+    let q = k?;
     let place = q.place as usize;
-    if q.fault != 0 {
-        return q.fault;
-    }
     let holder = column_in(place);
     match holder {
-        Holder::Rows(t) => row_fault(block, t, kept, count, full_of(full, t), q),
-        Holder::Cells => cell_fault(block, kept, count, place),
+        Some(t) => row_fault(block, t, kept, full.of(t), q),
+        None => cell_fault(block, kept, place),
     }
 }
 
-// The status and index of the lowest binding at fault, or 0 and 0.
-pub fn verdict_of(block: &[u8], kept: [Kept; 16], count: usize) -> Verdict
-    requires { (legal block.now ≡ true) × (count ≤ 16) × TimersFit kept count }
-    ensures { (s : List ℕ) → (result.status ≡ (verdict (content_of block.now) (meant_by s kept count)).status) × (result.index ≡ (verdict (content_of block.now) (meant_by s kept count)).index) }
+// The lowest binding at fault, if one is.
+pub fn verdict_of(block: &[u8], kept: &[Result<Kept, Fault>]) -> Result<(), Faulted>
+    requires { (legal block.now ≡ true) × (length kept.now ≤ 16) × TimersFit kept.now }
+    ensures { (s : List ℕ) → verdict_as result ≡ verdict (content_of block.now) (meant_by s kept.now) }
 {
-    let full = full_in(block, kept, count);
-    let mut i = 0;
-    while i < count {
-        let fault = fault_of(block, kept, count, full, kept[i]);
-        if fault != 0 {
-            return Verdict {
-                status: fault,
+    let full = full_in(block, kept);
+    for (i, k) in kept.iter().enumerate() {
+        if let Err(fault) = fault_of(block, kept, full, *k) {
+            return Err(Faulted {
+                fault,
                 index: i as u8 + 1,
-            };
+            });
         }
-        i += 1;
     }
-    Verdict {
-        status: 0,
-        index: 0,
-    }
+    Ok(())
 }

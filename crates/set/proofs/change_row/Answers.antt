@@ -9,11 +9,11 @@ use lib.ListN.{length, get_or}
 use Rattle.octets.specs.Parts.{part}
 use Rattle.octets.proofs.PartLaws.{part_length}
 use Rattle.names.specs.declared.model.Model.{Model}
+use Rattle.std.specs.Prelude.{Ok}
 use Rattle.block.specs.Content.{model_of}
 use Rattle.block.specs.Image.{content_of}
 use Rattle.block.specs.Lookup.{keys_of, find_key, no_vlan, no_static, no_pair}
 use Rattle.block.specs.Tables.{rows_of}
-use Rattle.block.specs.declared.rows.Place.TheVariants.{At}
 use Rattle.block.specs.declared.tables.Table.{Table}
 use Rattle.block.specs.declared.tables.Table.TheVariants.{Vlan as vlan, Static as static, Pair as pair}
 use Rattle.answer.specs.Tables.{ColumnOf, step, removes}
@@ -27,7 +27,7 @@ use Rattle.set.proofs.change_row.Goals as goal
 
 -- what is asked, of the table that it is
 abbrev Asked : (b s : List ℕ) (i : ℕ) (q : Kept) → Table → Type 0
-Asked b s i q t = FitsRow t b s q × (find_key q.key (keys_of (rows_of t (content_of b))) ≡ At i) × (q.place ≡ status_place t → removes t (status_meant t q.value) ≡ false)
+Asked b s i q t = FitsRow t b s q × (find_key q.key (keys_of (rows_of t (content_of b))) ≡ Ok i) × (q.place ≡ status_place t → removes t (status_meant t q.value) ≡ false)
 
 asked : (b s : List ℕ) (i : ℕ) (q : Kept) {t u : Table} → t ≡ u → Asked b s i q t → Asked b s i q u
 asked b s i q e w = subst (Asked b s i q) e w

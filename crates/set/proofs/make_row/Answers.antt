@@ -7,11 +7,11 @@ use Prim.Native.Nat.{ℕ, ◌<◌}
 use native.Mathlib.Omega.{arith}
 use lib.ListN.{length}
 use Rattle.names.specs.declared.model.Model.{Model}
+use Rattle.std.specs.Prelude.{Err}
 use Rattle.block.specs.Content.{model_of}
 use Rattle.block.specs.Image.{content_of}
 use Rattle.block.specs.Lookup.{keys_of, find_key}
 use Rattle.block.specs.Tables.{rows_of, most}
-use Rattle.block.specs.declared.rows.Place.TheVariants.{Absent}
 use Rattle.block.specs.declared.tables.Table.{Table}
 use Rattle.block.specs.declared.tables.Table.TheVariants.{Vlan as vlan, Static as static, Pair as pair}
 use Rattle.answer.specs.Writes.{status}
@@ -30,7 +30,7 @@ Asked b i k v t =
     × (k < key_room t)
     × ColumnFits t (status (status_meant t v))
     × (makes t (status_meant t v) ≡ true)
-    × (find_key k (keys_of (rows_of t (content_of b))) ≡ Absent i)
+    × (find_key k (keys_of (rows_of t (content_of b))) ≡ Err i)
     × (length (rows_of t (content_of b)) < most t)
 
 asked : (b : List ℕ) (i k v : ℕ) {t u : Table} → t ≡ u → Asked b i k v t → Asked b i k v u

@@ -10,8 +10,8 @@ use Rattle.names.specs.Places.{vlan_name, vlan_row_status}
 use Rattle.verdict.proofs.columns.ColumnLaws.{vlan-stated}
 use Rattle.set.proofs.vlan_with.Goals as goal
 
-pub name_octets-name-requires : goal.name_octets-name-requires
-name_octets-name-requires c =
+pub name_octets-row-requires : goal.name_octets-row-requires
+name_octets-row-requires c =
     let p = c.requires in
     (p.2, p.3 c.in-32.is)
 
@@ -19,7 +19,7 @@ pub returns-in-32 : goal.returns-in-32
 returns-in-32 c m =
     let a = c in
     let q = a.args.q in
-    rw (c.in-32.is, part_length a.args.request.now q.at q.len a.requires.2, c.name_octets-name.ensures)
+    rw (c.in-32.is, part_length a.args.request.now q.at q.len a.requires.2, c.name_octets-row.ensures)
 
 pub returns-in-33 : goal.returns-in-33
 returns-in-33 c m = rw c.in-33.is

@@ -1,5 +1,4 @@
 -- `set::write_all` meets its contract: VlanNumDeletes grows, and then the three phases leave what an accepted set leaves. Assumes nothing.
-use native.Mathlib.Omega.{arith}
 use mathlib.Core.Path.{◌≡◌, sym, ap, ◌∙◌}
 use mathlib.Core.Bool.{true}
 use mathlib.Core.List.{List}
@@ -30,18 +29,18 @@ grown b x m r lawful more rows =
 pub write_phase-requires : goal.write_phase-requires
 write_phase-requires c =
     let a = c.args in
-    let more = grown a.block.now c.add_deletes.new.block (meant_by a.request.now a.kept a.count) c.lost-rows.result c.requires.0 c.add_deletes.ensures
+    let more = grown a.block.now c.add_deletes.new.block (meant_by a.request.now a.kept.now) c.lost-rows.result c.requires.0 c.add_deletes.ensures
     (ap (deletes_more (content_of a.block.now)) (c.lost-rows.ensures a.request.now)) in
-    (written-image (whole-deletes (written-legal c.requires.0).whole _) more, c.requires.1, c.requires.2, omega arith)
+    (written-image (whole-deletes (written-legal c.requires.0).whole _) more, c.requires.2)
 
 pub returns : goal.returns
 returns c one few =
     let a = c.args in
-    let more = grown a.block.now c.add_deletes.new.block (meant_by a.request.now a.kept a.count) c.lost-rows.result c.requires.0 c.add_deletes.ensures
+    let more = grown a.block.now c.add_deletes.new.block (meant_by a.request.now a.kept.now) c.lost-rows.result c.requires.0 c.add_deletes.ensures
     (ap (deletes_more (content_of a.block.now)) (c.lost-rows.ensures a.request.now)) in
     sym c.write_phase-3.ensures.0.same
     ∙ ap image
-    (phases-leave a.request.now a.kept a.count (content_of a.block.now)
+    (phases-leave a.request.now a.kept.now (content_of a.block.now)
     (written-legal c.requires.0).whole one few c.add_deletes.new.block c.write_phase.new.block
     c.write_phase-2.new.block c.write_phase-3.new.block more c.write_phase.ensures.1 c.write_phase-2.ensures.1
     c.write_phase-3.ensures.1)

@@ -46,8 +46,8 @@ module _ (t : Table) (q : Kept) {p : ℕ} {r : Bool} (place : p ≡ status_place
       let m = both (eqb q.place (status_place t)) (makes t (status_meant t q.value)) (making e ∙ u.0) in
       (m.0, m.1, ltb-true n (most t) (sym f ∙ u.1))
 
-pub find_row-place-requires : goal.find_row-place-requires
-find_row-place-requires c =
+pub find_row-requires : goal.find_row-requires
+find_row-requires c =
     let a = c in
     (written-sized a.requires.written, written-ascends a.requires.written a.args.t)
 
@@ -55,7 +55,7 @@ pub remove_row-requires : goal.remove_row-requires
 remove_row-requires c =
     let a = c in
     let w = a.requires.written in
-    ((written-sized w).long, whole-few w.whole a.args.t, found_inside a.args.q.key (rows_of a.args.t (content_of a.args.block.now)) _ (sym c.find_row-place.ensures ∙ c.in-At.is))
+    ((written-sized w).long, whole-few w.whole a.args.t, found_inside a.args.q.key (rows_of a.args.t (content_of a.args.block.now)) _ (sym c.find_row.ensures ∙ c.in-Ok.is))
 
 pub returns-then-states-removes_row : goal.returns-then-states-removes_row
 returns-then-states-removes_row c =
@@ -63,7 +63,7 @@ returns-then-states-removes_row c =
     let t = a.args.t in
     let w = a.requires.written in
     let q = a.args.q in
-    remove-becomes t w q.key (column t a.args.request.now a.args.q) a.requires.key_fits a.requires.fits (no_row t) (sym c.find_row-place.ensures ∙ c.in-At.is)
+    remove-becomes t w q.key (column t a.args.request.now a.args.q) a.requires.key_fits a.requires.fits (no_row t) (sym c.find_row.ensures ∙ c.in-Ok.is)
     (column-drops (bridge a.args.block.now) t q.key q.value (octets a.args.request.now a.args.q) q.place _ (removing c.args.t c.args.q c.status_place.ensures c.removes_row.ensures ∙ c.if-states-removes_row.true))
     (c.remove_row.ensures _ w.whole.stored.shape (sym w.same))
 
@@ -73,7 +73,7 @@ change_row-requires c =
     let q = a.args.q in
     let t = a.args.t in (
       a.requires,
-      sym c.find_row-place.ensures ∙ c.in-At.is,
+      sym c.find_row.ensures ∙ c.in-Ok.is,
       λ e. rw (eq-eqb q.place (status_place t) e) at (removing c.args.t c.args.q c.status_place.ensures c.removes_row.ensures ∙ c.if-states-removes_row.false),
     )
 
@@ -84,7 +84,7 @@ pub make_row-requires : goal.make_row-requires
 make_row-requires c =
     let a = c in
     let m = made c.args.t c.args.q c.status_place.ensures c.makes_row.ensures c.has_room.ensures c.if-states-makes_row.true in
-    (a.requires.written, a.requires.key_fits, rw m.0 at a.requires.fits, m.1, sym c.find_row-place.ensures ∙ c.in-Absent.is, m.2)
+    (a.requires.written, a.requires.key_fits, rw m.0 at a.requires.fits, m.1, sym c.find_row.ensures ∙ c.in-Err.is, m.2)
 
 pub returns-else-states-removes_row : goal.returns-else-states-removes_row
 returns-else-states-removes_row c = c.change_row.ensures
@@ -97,7 +97,7 @@ returns-else-states-makes_row c =
     let a = c in
     let t = a.args.t in
     let q = a.args.q in
-    stays t a.requires.written q.key (column t a.args.request.now a.args.q) a.requires.key_fits a.requires.fits (made_at (bridge a.args.block.now) t q.key q.value) (eqb q.place (status_place t) && makes t (status_meant t q.value)) (sym c.find_row-place.ensures ∙ c.in-Absent.is)
+    stays t a.requires.written q.key (column t a.args.request.now a.args.q) a.requires.key_fits a.requires.fits (made_at (bridge a.args.block.now) t q.key q.value) (eqb q.place (status_place t) && makes t (status_meant t q.value)) (sym c.find_row.ensures ∙ c.in-Err.is)
     (column-makes (bridge a.args.block.now) t q.key q.value (octets a.args.request.now a.args.q) q.place)
     (column-none (bridge a.args.block.now) t q.key q.value (octets a.args.request.now a.args.q) q.place)
     (ap₂ (λ (s t : Bool). s && t) (making c.args.t c.args.q c.status_place.ensures c.makes_row.ensures) (sym c.has_room.ensures) ∙ c.if-states-makes_row.false)

@@ -7,6 +7,7 @@ use Prim.Native.Nat.{ℕ, ◌-◌, ◌≤◌, ◌<◌}
 use native.Mathlib.Omega.{arith}
 use lib.Dec.{eqb, leb}
 use borrow.Author.Tests.{eqb-true, leb-true, lt-leb, not-true, ne_eqb}
+use Rattle.std.specs.Prelude.{Option as Maybe, Some, None, Ok}
 use Rattle.octets.specs.Parts.{part}
 use Rattle.octets.specs.Ports.{ports_to}
 use Rattle.octets.proofs.BoolLaws.{both, by-eq, by_bool}
@@ -23,8 +24,6 @@ use Rattle.answer.specs.Set.{in_table, row_write, loses}
 use Rattle.answer.proofs.JudgeLaws.{in-table}
 use Rattle.answer.proofs.StoredLaws.{own-write}
 use Rattle.verdict.specs.Kept.{first_written, status_place, is_column, column_in, status_meant, column_at, written_to, written_as, meant, ColumnFits}
-use Rattle.verdict.specs.declared.columns.Holder.{Holder}
-use Rattle.verdict.specs.declared.columns.Holder.TheVariants.{Cells, Rows}
 use Rattle.verdict.specs.declared.judge.Kept.{Kept}
 
 -- a place that fails a test is not one that passes it
@@ -43,7 +42,7 @@ status-elsewhere t i h = elsewhere (is_column t) i (status_place t) (status-here
 pub column-high : (t : Table) (i : ℕ) → is_column t i ≡ true → i ≤ status_place t
 column-high t i h = leb-true i (status_place t) (both (leb (first_written t) i) (leb i (status_place t)) h).1
 
-pub column-here : (t : Table) (i : ℕ) → is_column t i ≡ true → column_in i ≡ Rows t
+pub column-here : (t : Table) (i : ℕ) → is_column t i ≡ true → column_in i ≡ Some t
 column-here vlan i h = rw h
 column-here static i h =
     let high : i ≤ static_state = column-high static i h in
@@ -53,22 +52,22 @@ column-here pair i h =
     rw (lt-leb vlan_name i (omega arith), lt-leb static_allowed i (omega arith), h)
 
 -- and a place that has its values in a table's rows is a column of it
-abbrev held_in : Holder → Table → Table
-held_in Cells d = d
-held_in (Rows t) d = t
+abbrev held_in : Maybe Table → Table → Table
+held_in None d = d
+held_in (Some t) d = t
 
-abbrev in_rows : Holder → Bool
-in_rows Cells = false
-in_rows (Rows t) = true
+abbrev in_rows : Maybe Table → Bool
+in_rows None = false
+in_rows (Some t) = true
 
-pub column-of : (t : Table) (i : ℕ) → column_in i ≡ Rows t → is_column t i ≡ true
+pub column-of : (t : Table) (i : ℕ) → column_in i ≡ Some t → is_column t i ≡ true
 column-of t i h =
     by_bool (is_column vlan i) (λ e. rw (← owner vlan (rw e at h)) e)
     (λ e. by_bool (is_column static i) (λ f. rw (← owner static (rw (e, f) at h)) f)
     (λ f. by_bool (is_column pair i) (λ g. rw (← owner pair (rw (e, f, g) at h)) g) (λ g. absurd (false≢true (ap in_rows (rw (e, f, g) at h))))))
   where
-    owner : (u : Table) → Rows u ≡ Rows t → u ≡ t
-    owner u p = ap (λ (x : Holder). held_in x vlan) p
+    owner : (u : Table) → Some u ≡ Some t → u ≡ t
+    owner u p = ap (λ (x : Maybe Table). held_in x vlan) p
 
 -- a write to a table is none to another
 apart : (t u : Table) (k : ℕ) (c : ColumnOf u) → (t ≡ u → ⊥) → in_table t u k c ≡ none
@@ -77,29 +76,25 @@ apart t u k c = in-table t (λ u c o. (t ≡ u → ⊥) → o ≡ none) k (λ c 
 other : (t : Table) (g : ℕ × ℕ) (i k v : ℕ) (xs : List ℕ) → is_column t i ≡ false → row_write t (clean g (written_as i k v xs)) ≡ none
 other t g i k v xs h = go (column_in i) refl
   where
-    go : (o : Holder) → column_in i ≡ o → row_write t (clean g (written_to o i k v xs)) ≡ none
-    go Cells e = refl
-    go (Rows u) e = apart t u k (column_at u i v xs) (λ p. true≢false (sym (column-of u i e) ∙ sym (ap (λ (w : Table). is_column w i) p) ∙ h))
+    go : (o : Maybe Table) → column_in i ≡ o → row_write t (clean g (written_to o i k v xs)) ≡ none
+    go None e = refl
+    go (Some u) e = apart t u k (column_at u i v xs) (λ p. true≢false (sym (column-of u i e) ∙ sym (ap (λ (w : Table). is_column w i) p) ∙ h))
 
 -- what a kept binding writes to a table
-pub write-of : (t : Table) (s : List ℕ) (q : Kept) → row_write t (meant s q)
-    ≡ cond (eqb q.fault 0 && is_column t q.place) (some (q.key, column_at t q.place q.value (part s q.at q.len))) none
+pub write-of : (t : Table) (s : List ℕ) (q : Kept) → row_write t (meant s (Ok q))
+    ≡ cond (is_column t q.place) (some (q.key, column_at t q.place q.value (part s q.at q.len))) none
 write-of t s q =
     let i : ℕ = q.place in
     let xs : List ℕ = part s q.at q.len in
-    by_bool (eqb q.fault 0)
-    (λ e. rw e
-    (by_bool (is_column t i) (λ f. rw (f, column-here t i f) (own-write t q.key (column_at t i q.value xs))) (λ f. rw f (other t (0, 0) i q.key q.value xs f))))
-    (λ e. rw e)
+    by_bool (is_column t i) (λ f. rw (f, column-here t i f) (own-write t q.key (column_at t i q.value xs))) (λ f. rw f (other t (0, 0) i q.key q.value xs f))
 
 -- what a clean kept binding means, by where its object has its values
 module _ (s : List ℕ) (q : Kept) where
-  pub kept_row : (t : Table) → q.fault ≡ 0 → column_in q.place ≡ Rows t
-      → meant s q ≡ clean (0, 0) (row t q.key (column_at t q.place q.value (part s q.at q.len)))
-  kept_row t e h = rw (e, h)
+  pub kept_row : (t : Table) → column_in q.place ≡ Some t → meant s (Ok q) ≡ clean (0, 0) (row t q.key (column_at t q.place q.value (part s q.at q.len)))
+  kept_row t h = rw h
 
-  pub kept-cell : q.fault ≡ 0 → column_in q.place ≡ Cells → meant s q ≡ clean (0, 0) (cell q.place q.key q.value)
-  kept-cell e h = rw (e, h)
+  pub kept-cell : column_in q.place ≡ None → meant s (Ok q) ≡ clean (0, 0) (cell q.place q.key q.value)
+  kept-cell h = rw h
 
 -- by a number in RowStatus
 pub by-row-status : {C : Type 0} (v : ℕ) → (v ≡ 1 → C) → (v ≡ 2 → C) → (v ≡ 4 → C) → (v ≡ 5 → C)

@@ -3,18 +3,21 @@ use Prim.Native.Nat.{ℕ, ◌+◌, ◌≤◌, ◌<◌}
 use native.Mathlib.Numerals.{add-one}
 use native.Mathlib.Omega.{arith}
 use mathlib.Core.Path.{◌≡◌, refl}
-use mathlib.Core.Bool.{Bool, true, cond, not, ◌||◌, ◌&&◌}
+use mathlib.Core.Bool.{Bool, true, false, cond, not, ◌||◌, ◌&&◌}
 use mathlib.Core.Option.{Option}
 use mathlib.Core.List.{List, map}
 use lib.Dec.{eqb}
-use lib.ListN.{length, take, drop, get_or}
+use lib.ListN.{length, drop, get_or}
 use borrow.Author.Tests.{eq-eqb, ne_eqb, eqb-true}
+use Rattle.std.specs.Prelude.{Result}
 use Rattle.octets.proofs.BoolLaws.{by_bool}
-use Rattle.octets.proofs.ListLaws.{left-turn}
 use Rattle.names.specs.declared.model.Model.{Model}
 use Rattle.block.specs.Content.{Content}
 use Rattle.block.specs.Lookup.{lookup}
 use Rattle.names.specs.Places.{pair_bridge_state, static_state, vlan_name, vlan_egress, vlan_forbidden}
+use Rattle.answer.specs.Faults.{number_of}
+use Rattle.answer.specs.declared.faults.Fault.{Fault}
+use Rattle.answer.specs.declared.faults.Fault.TheVariants.{GenErr, WrongType, WrongLength, WrongValue, NoCreation, InconsistentValue, ResourceUnavailable, NotWritable, InconsistentName}
 use Rattle.answer.specs.Writes.{is_status, on_status, present, has}
 use Rattle.block.specs.Tables.{Row, rows_of}
 use Rattle.block.specs.declared.tables.Table.{Table}
@@ -24,7 +27,7 @@ use Rattle.answer.specs.Judge.{Judged}
 use Rattle.answer.specs.Set.{writes_to, attribute_fault, status_fault, resulting, row_fault, is_full, fault, first_fault}
 use Rattle.verdict.specs.Kept.{status_place, is_column, status_meant, attribute_said, column_at, meant, full_in, full_of}
 use Rattle.verdict.specs.declared.judge.Kept.{Kept}
-use Rattle.verdict.proofs.PastEnd.{past_end}
+use Rattle.verdict.proofs.PastEnd.{past_end, kept_turn}
 use Rattle.verdict.proofs.columns.ColumnLaws.{column-high}
 
 -- the fault of a write to the column at place i
@@ -59,10 +62,22 @@ full-known vlan c m = refl
 full-known static c m = refl
 full-known pair c m = refl
 
+-- no fault has the number 0
+pub fault-numbered : (f : Fault) → eqb (number_of f) 0 ≡ false
+fault-numbered GenErr = refl
+fault-numbered WrongType = refl
+fault-numbered WrongLength = refl
+fault-numbered WrongValue = refl
+fault-numbered NoCreation = refl
+fault-numbered InconsistentValue = refl
+fault-numbered ResourceUnavailable = refl
+fault-numbered NotWritable = refl
+fault-numbered InconsistentName = refl
+
 -- a turn of the loop that looks for the first fault
-pub first-turn : (c : Content) (m : List Judged) (s : List ℕ) (qs : List Kept) (count i : ℕ) → i < count → count ≤ length qs
-    → first_fault c m (map (meant s) (drop i (take count qs))) (i + 1)
-    ≡ cond (eqb (fault c m (meant s (get_or qs i past_end))) 0) (first_fault c m (map (meant s) (drop (i + 1) (take count qs))) (i + 1 + 1))
+pub first-turn : (c : Content) (m : List Judged) (s : List ℕ) (qs : List (Result Kept Fault)) (i : ℕ) → i < length qs
+    → first_fault c m (map (meant s) (drop i qs)) (i + 1)
+    ≡ cond (eqb (fault c m (meant s (get_or qs i past_end))) 0) (first_fault c m (map (meant s) (drop (i + 1) qs)) (i + 1 + 1))
     (record { status = fault c m (meant s (get_or qs i past_end)); index = i + 1 })
 unfolding first_fault
-first-turn c m s qs count i h l = rw (left-turn past_end qs count i h l, add-one (i + 1))
+first-turn c m s qs i h = rw (kept_turn qs i h, add-one (i + 1))

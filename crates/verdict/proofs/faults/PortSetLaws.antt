@@ -1,27 +1,29 @@
 -- Laws of Egress and Forbidden of a VLAN row: what the kept bindings of a set leave of them is what their writes leave. Assumes nothing.
 use Prim.Native.Nat.{ℕ, ◌+◌, ◌≤◌, ◌<◌}
 use mathlib.Core.Path.{◌≡◌, refl, sym, ap, ◌∙◌}
-use mathlib.Core.Bool.{Bool, true, cond, not, ◌||◌, ◌&&◌}
+use mathlib.Core.Bool.{Bool, true, false, cond, not, ◌&&◌, true≢false}
 use mathlib.Core.Option.{Option, none, some}
 use mathlib.Core.List.{List, [], ◌∷◌, ◌++◌, map}
 use native.Mathlib.Omega.{arith}
 use lib.Dec.{eqb, leb}
-use lib.ListN.{length, take, drop, get_or}
-use borrow.Author.Tests.{leb-true}
+use lib.ListN.{length, drop, get_or, drop_of_length-le}
+use borrow.Author.Tests.{leb-true, eq-eqb, ne_eqb}
+use Rattle.std.specs.Prelude.{Option as Maybe, Some, None, Result, Ok}
+use Rattle.std.specs.Option.{option_or}
 use Rattle.octets.specs.Ports.{disjoint}
 use Rattle.octets.proofs.BoolLaws.{both, by-eq, by_bool}
-use Rattle.octets.proofs.ListLaws.{left-turn, left-none}
 use Rattle.names.specs.declared.model.Model.{Model}
 use Rattle.block.specs.declared.rows.VlanRow.{VlanRow}
 use Rattle.names.specs.Places.{vlan_name, vlan_egress, vlan_forbidden, vlan_untagged, vlan_row_status}
+use Rattle.answer.specs.declared.faults.Fault.{Fault}
 use Rattle.answer.specs.Writes.{status, attribute, is_status, those, ordered, play_row}
 use Rattle.block.specs.declared.tables.Table.TheVariants.{Vlan as vlan}
 use Rattle.answer.specs.Tables.{ColumnOf, status_step, step, makes, removes, clash}
 use Rattle.answer.specs.Set.{row_write, also, gather, writes_to, resulting}
-use Rattle.verdict.specs.Kept.{is_column, status_meant, meant, is_status_of, sets_of}
+use Rattle.verdict.specs.Kept.{is_column, status_meant, meant, is_status_of, sets_of, attribute_sets}
 use Rattle.verdict.specs.declared.judge.Kept.{Kept}
 use Rattle.verdict.specs.declared.faults.Sets.{Sets}
-use Rattle.verdict.proofs.PastEnd.{past_end}
+use Rattle.verdict.proofs.PastEnd.{past_end, kept_turn}
 use Rattle.verdict.proofs.columns.ColumnLaws.{elsewhere, write-of, by-row-status}
 use Rattle.verdict.proofs.faults.StatusLaws.{status-turn}
 
@@ -53,29 +55,34 @@ row-append m k [] b o = refl
 row-append m k (w ∷ a) b o = row-append m k a b (cond (eqb k w.0) (step m vlan w.0 w.1 o) o)
 
 -- a status kept binding of the row changes it as its number says
-pub status-row : (m : Model) (s : List ℕ) (k : ℕ) (q : Kept) (o : Option VlanRow) → row_after m is_status k (row_write vlan (meant s q)) o
+pub status-row : (m : Model) (s : List ℕ) (k : ℕ) (q : Kept) (o : Option VlanRow) → row_after m is_status k (row_write vlan (meant s (Ok q))) o
     ≡ cond (is_status_of vlan q && eqb k q.key) (status_step m vlan q.key (status_meant vlan q.value) o) o
 unfolding those play_row
 status-row m s k q o =
-    sym (row-turn m is_status k [] (row_write vlan (meant s q)) o)
+    sym (row-turn m is_status k [] (row_write vlan (meant s (Ok q))) o)
     ∙ ap (λ ws. play_row (step m vlan) k ws o) (status-turn vlan s q [])
     ∙ by_bool (is_status_of vlan q) (λ e. rw e) (λ e. rw e)
 
--- what a number in RowStatus makes of Egress and Forbidden
+-- what a number in RowStatus makes of Egress and Forbidden: a row that is made has no ports
 pub status-sets : (m : Model) (k v : ℕ) (o : Option VlanRow) → sets_of (status_step m vlan k (status_meant vlan v) o)
-    ≡ cond (removes vlan (status_meant vlan v)) (sets_of none)
-    (record { there = (sets_of o).there || makes vlan (status_meant vlan v); egress = (sets_of o).egress; forbidden = (sets_of o).forbidden })
+    ≡ cond (removes vlan (status_meant vlan v)) None (cond (makes vlan (status_meant vlan v)) (option_or (sets_of o) (Some (record { egress = 0; forbidden = 0 }))) (sets_of o))
 status-sets m k v none = by-row-status v (λ i. rw i) (λ i. rw i) (λ i. rw i) (λ i. rw i) (λ n. rw (n.0, n.1, n.2, n.3))
 status-sets m k v (some r) = by-row-status v (λ i. rw i) (λ i. rw i) (λ i. rw i) (λ i. rw i) (λ n. rw (n.0, n.1, n.2, n.3))
 
+-- what holds of Egress and Forbidden where the row is there
+abbrev pub on_some : (Sets → Sets) → Maybe Sets → Maybe Sets
+on_some f None = None
+on_some f (Some x) = Some (f x)
+
 -- Egress and Forbidden after a kept binding of another column
-abbrev pub with_attribute : ℕ → Kept → Sets → Sets
-with_attribute k q x =
-    record {
-      there = x.there;
-      egress = cond ((eqb q.fault 0 && (x.there && eqb k q.key)) && eqb q.place vlan_egress) q.value x.egress;
-      forbidden = cond ((eqb q.fault 0 && (x.there && eqb k q.key)) && eqb q.place vlan_forbidden) q.value x.forbidden;
-    }
+abbrev pub sets_with : ℕ → Kept → Sets → Sets
+sets_with k q x = cond (eqb k q.key) (attribute_sets q x) x
+
+pub with-key : (k : ℕ) (q : Kept) (x : Sets) → k ≡ q.key → sets_with k q x ≡ attribute_sets q x
+with-key k q x e = rw (eq-eqb k q.key e)
+
+pub with-other : (k : ℕ) (q : Kept) (x : Sets) → (k ≡ q.key → ⊥) → sets_with k q x ≡ x
+with-other k q x d = rw (ne_eqb k q.key d)
 
 -- an absent row stays absent
 attribute-absent : (m : Model) (k : ℕ) (w : Option (ℕ × ColumnOf vlan)) → row_after m (λ c. not (is_status c)) k w none ≡ none
@@ -87,12 +94,10 @@ attribute-absent m k (some w) = go w.1
     go (attribute f) = by_bool (eqb k w.0) (λ e. rw e) (λ e. rw e)
 
 pub attribute-row : (m : Model) (s : List ℕ) (k : ℕ) (q : Kept) (o : Option VlanRow)
-    → sets_of (row_after m (λ c. not (is_status c)) k (row_write vlan (meant s q)) o) ≡ with_attribute k q (sets_of o)
-attribute-row m s k q none = rw (attribute-absent m k (row_write vlan (meant s q))) (by_bool (eqb q.fault 0) (λ e. rw e) (λ e. rw e))
+    → sets_of (row_after m (λ c. not (is_status c)) k (row_write vlan (meant s (Ok q))) o) ≡ on_some (sets_with k q) (sets_of o)
+attribute-row m s k q none = rw (attribute-absent m k (row_write vlan (meant s (Ok q))))
 attribute-row m s k q (some r) =
     rw (write-of vlan s q)
-    (by_bool (eqb q.fault 0)
-    (λ e. rw e
     (by_bool (eqb k q.key)
     (λ g. rw g
     (by_bool (is_column vlan q.place)
@@ -101,50 +106,74 @@ attribute-row m s k q (some r) =
     (λ g. rw g
     (by_bool (is_column vlan q.place)
     (λ f. by-vlan-column q.place f (λ i. rw (i, g)) (λ i. rw (i, g)) (λ i. rw (i, g)) (λ i. rw (i, g)) (λ i. rw i))
-    (λ f. rw f)))))
-    (λ e. rw e))
+    (λ f. rw f))))
+
+-- so the writes of other columns leave an absent row absent
+absent-stays : (m : Model) (k : ℕ) (ws : List (ℕ × ColumnOf vlan)) → play_row (step m vlan) k (those (λ c. not (is_status c)) ws) none ≡ none
+unfolding those play_row
+absent-stays m k [] = refl
+absent-stays m k (w ∷ ws) = row-turn m (λ c. not (is_status c)) k ws (some w) none ∙ rw (attribute-absent m k (some w)) (absent-stays m k ws)
+
+abbrev is_there : Maybe Sets → Bool
+is_there None = false
+is_there (Some x) = true
+
+sets-none : (o : Option VlanRow) → None ≡ sets_of o → o ≡ none
+sets-none none e = refl
+sets-none (some r) e = absurd (true≢false (sym (ap is_there e)))
 
 -- what a loop over kept bindings has made of the row k: with the kept bindings left, it comes to the row at the end
-pub record Reached (m : Model) (p : ColumnOf vlan → Bool) (s : List ℕ) (k : ℕ) (qs : List Kept) (x : Sets) (end : Option VlanRow) : Type 0 where
+pub record Reached (m : Model) (p : ColumnOf vlan → Bool) (s : List ℕ) (k : ℕ) (qs : List (Result Kept Fault)) (x : Maybe Sets) (end : Option VlanRow) : Type 0 where
   pub row : Option VlanRow
   pub sets : x ≡ sets_of row
   pub rest : play_row (step m vlan) k (those p (writes_to vlan (map (meant s) qs))) row ≡ end
 
 module _ (m : Model) (p : ColumnOf vlan → Bool) (s : List ℕ) (k : ℕ) where
-  pub reached-none : (qs : List Kept) (x : Sets) (o : Option VlanRow) → x ≡ sets_of o
+  pub reached-none : (qs : List (Result Kept Fault)) (x : Maybe Sets) (o : Option VlanRow) → x ≡ sets_of o
       → Reached m p s k qs x (play_row (step m vlan) k (those p (writes_to vlan (map (meant s) qs))) o)
   reached-none qs x o e = record { row = o; sets = e; rest = refl }
 
-  pub reached-more : (qs : List Kept) (count i : ℕ) → i < count → count ≤ length qs → (x y : Sets) (end : Option VlanRow)
+  pub reached-more : (qs : List (Result Kept Fault)) (i : ℕ) → i < length qs → (x y : Maybe Sets) (end : Option VlanRow)
       → ((o : Option VlanRow) → x ≡ sets_of o → y ≡ sets_of (row_after m p k (row_write vlan (meant s (get_or qs i past_end))) o))
-      → Reached m p s k (drop i (take count qs)) x end → Reached m p s k (drop (i + 1) (take count qs)) y end
+      → Reached m p s k (drop i qs) x end → Reached m p s k (drop (i + 1) qs) y end
   unfolding gather
-  reached-more qs count i h l x y end f r =
-      let q : Kept = get_or qs i past_end in
-      let rest : List Kept = drop (i + 1) (take count qs) in
-      let all : play_row (step m vlan) k (those p (writes_to vlan (map (meant s) (q ∷ rest)))) r.row ≡ end = rw (left-turn past_end qs count i h l) at r.rest in
+  reached-more qs i h x y end f r =
+      let q : Result Kept Fault = get_or qs i past_end in
+      let rest : List (Result Kept Fault) = drop (i + 1) qs in
+      let all : play_row (step m vlan) k (those p (writes_to vlan (map (meant s) (q ∷ rest)))) r.row ≡ end = rw (kept_turn qs i h) at r.rest in
       record {
         row = row_after m p k (row_write vlan (meant s q)) r.row;
         sets = f r.row r.sets;
         rest = sym (row-turn m p k (writes_to vlan (map (meant s) rest)) (row_write vlan (meant s q)) r.row) ∙ all;
       }
 
-  pub reached-all : (qs : List Kept) (count i : ℕ) → count ≤ i → (x : Sets) (end : Option VlanRow) → Reached m p s k (drop i (take count qs)) x end → x ≡ sets_of end
+  pub reached-all : (qs : List (Result Kept Fault)) (i : ℕ) → length qs ≤ i → (x : Maybe Sets) (end : Option VlanRow) → Reached m p s k (drop i qs) x end → x ≡ sets_of end
   unfolding gather those play_row
-  reached-all qs count i h x end r =
-      let none_left : r.row ≡ end = rw (left-none qs count i h) at r.rest in
+  reached-all qs i h x end r =
+      let none_left : r.row ≡ end = rw (drop_of_length-le qs {i = i} h) at r.rest in
       r.sets ∙ ap sets_of none_left
 
 -- the resulting row shares a port by its Egress and Forbidden
-clash-sets : (o : Option VlanRow) → clash o ≡ ((sets_of o).there && not (disjoint (sets_of o).egress (sets_of o).forbidden))
+abbrev pub shared : Maybe Sets → Bool
+shared None = false
+shared (Some x) = not (disjoint x.egress x.forbidden)
+
+clash-sets : (o : Option VlanRow) → clash o ≡ shared (sets_of o)
 clash-sets none = refl
 clash-sets (some r) = refl
 
-pub shares-sets : (m : Model) (ws : List (ℕ × ColumnOf vlan)) (k : ℕ) (o : Option VlanRow) (x : Sets)
-    → x ≡ sets_of (play_row (step m vlan) k (those (λ c. not (is_status c)) ws) (play_row (step m vlan) k (those is_status ws) o))
-    → clash (resulting m vlan ws k o) ≡ (x.there && not (disjoint x.egress x.forbidden))
-unfolding ordered
-shares-sets m ws k o x e =
-    ap clash (row-append m k (those is_status ws) (those (λ c. not (is_status c)) ws) o)
-    ∙ clash-sets (play_row (step m vlan) k (those (λ c. not (is_status c)) ws) (play_row (step m vlan) k (those is_status ws) o))
-    ∙ rw e
+module _ (m : Model) (ws : List (ℕ × ColumnOf vlan)) (k : ℕ) (o : Option VlanRow) where
+  abbrev stated_row : Option VlanRow
+  stated_row = play_row (step m vlan) k (those is_status ws) o
+
+  pub shares-sets : (x : Maybe Sets) → x ≡ sets_of (play_row (step m vlan) k (those (λ c. not (is_status c)) ws) stated_row) → clash (resulting m vlan ws k o) ≡ shared x
+  unfolding ordered
+  shares-sets x e =
+      ap clash (row-append m k (those is_status ws) (those (λ c. not (is_status c)) ws) o)
+      ∙ clash-sets (play_row (step m vlan) k (those (λ c. not (is_status c)) ws) stated_row)
+      ∙ ap shared (sym e)
+
+  pub shares-none : None ≡ sets_of stated_row → clash (resulting m vlan ws k o) ≡ false
+  shares-none e =
+      let gone : play_row (step m vlan) k (those (λ c. not (is_status c)) ws) stated_row ≡ none = rw (sets-none stated_row e) (absent-stays m k ws) in
+      shares-sets None (sym (ap sets_of gone))

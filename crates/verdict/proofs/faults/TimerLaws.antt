@@ -3,81 +3,77 @@ use Prim.Native.Nat.{ℕ, ◌+◌, ◌^◌, ◌<◌}
 use native.Mathlib.Numerals.{add-one}
 use native.Mathlib.Omega.{arith}
 use mathlib.Core.Path.{◌≡◌, refl, sym, ap, ◌∙◌}
-use mathlib.Core.Bool.{Bool, true, false, cond, ◌&&◌, false≢true}
+use mathlib.Core.Bool.{Bool, true, false, cond, false≢true}
 use mathlib.Core.Option.{Option, some}
 use mathlib.Core.List.{List, [], ◌∷◌, ◌++◌, map-append}
 use lib.Dec.{eqb}
 use lib.ListN.{length, get_or, take}
 use lib.Seq.{take-suc, get_or-set_same, get_or-set_other}
 use borrow.Author.Tests.{eqb-true, eqb-false, ne_eqb}
-use Rattle.octets.proofs.BoolLaws.{both, by_bool}
+use Rattle.std.specs.Prelude.{Option as Maybe, Some, None, Result, Ok, Err}
+use Rattle.octets.proofs.BoolLaws.{by_bool}
 use Rattle.names.specs.Places.{is_timer}
 use Rattle.block.specs.Layout.{many_cells}
 use Rattle.block.specs.Content.{Content}
+use Rattle.block.specs.declared.tables.Table.{Table}
 use Rattle.block.specs.Cells.{cell_of, timer_in}
 use Rattle.block.proofs.TimerLaws.{by-timer, timer-place}
+use Rattle.answer.specs.declared.faults.Fault.{Fault}
 use Rattle.answer.specs.Judge.{Judged}
 use Rattle.answer.specs.Set.{cell_write, also, gather, set_cells, resulting_cells}
 use Rattle.answer.proofs.OnlyWriteLaws.{gather_append, cells-append, cells-length}
-use Rattle.verdict.specs.Kept.{column_in, meant, meant_by, OwnCell}
-use Rattle.verdict.specs.declared.columns.Holder.{Holder}
-use Rattle.verdict.specs.declared.columns.Holder.TheVariants.{Cells, Rows}
+use Rattle.verdict.specs.Kept.{column_in, meant, meant_by, TimerFits}
 use Rattle.verdict.specs.declared.judge.Kept.{Kept}
 
 -- a timer is no column of a growing table
-timer-no-column : (t : ℕ) → is_timer t ≡ true → column_in t ≡ Cells
-timer-no-column = by-timer (λ t. column_in t ≡ Cells) refl refl refl
+timer-no-column : (t : ℕ) → is_timer t ≡ true → column_in t ≡ None
+timer-no-column = by-timer (λ t. column_in t ≡ None) refl refl refl
 
-abbrev in_rows : Holder → Bool
-in_rows Cells = false
-in_rows (Rows t) = true
+abbrev in_rows : Maybe Table → Bool
+in_rows None = false
+in_rows (Some t) = true
 
 -- the number that a kept binding makes of the timer at place t
-abbrev pub timer_by : (t v : ℕ) → Kept → ℕ
-timer_by t v q = cond (eqb q.fault 0 && eqb q.place t) q.value v
+abbrev pub timer_by : (t v : ℕ) → Result Kept Fault → ℕ
+timer_by t v (Ok q) = cond (eqb q.place t) q.value v
+timer_by t v (Err f) = v
 
-module _ (s : List ℕ) (q : Kept) (t : ℕ) (timer : is_timer t ≡ true)
-    (fits : q.fault ≡ 0 → column_in q.place ≡ Cells → OwnCell q.place q.key) (l : List ℕ) (long : length l ≡ many_cells) where
-  -- what a kept binding writes to a cell
-  writes : eqb q.fault 0 ≡ true → column_in q.place ≡ Cells → cell_write (meant s q) ≡ some (cell_of q.place q.key, q.value)
-  writes e n = rw (e, n)
-
+module _ (s : List ℕ) (t : ℕ) (timer : is_timer t ≡ true) (l : List ℕ) (long : length l ≡ many_cells) where
   -- one kept binding written
-  timer-one : get_or (set_cells l (also (cell_write (meant s q)) [])) (cell_of t 0) 0 ≡ timer_by t (get_or l (cell_of t 0) 0) q
+  timer-one : (q : Result Kept Fault) → TimerFits q → get_or (set_cells l (also (cell_write (meant s q)) [])) (cell_of t 0) 0 ≡ timer_by t (get_or l (cell_of t 0) 0) q
   unfolding set_cells
-  timer-one = by_bool (eqb q.fault 0) (λ e. go (column_in q.place) refl e) (λ e. rw e)
+  timer-one (Err f) fits = refl
+  timer-one (Ok q) fits = go (column_in q.place) refl
     where
-      go : (o : Holder) → column_in q.place ≡ o → eqb q.fault 0 ≡ true
-          → get_or (set_cells l (also (cell_write (meant s q)) [])) (cell_of t 0) 0 ≡ timer_by t (get_or l (cell_of t 0) 0) q
-      go (Rows u) n e =
+      go : (o : Maybe Table) → column_in q.place ≡ o
+          → get_or (set_cells l (also (cell_write (meant s (Ok q))) [])) (cell_of t 0) 0 ≡ timer_by t (get_or l (cell_of t 0) 0) (Ok q)
+      go (Some u) n =
           let z : eqb q.place t ≡ false = ne_eqb q.place t (λ p. false≢true (ap in_rows (sym (timer-no-column t timer) ∙ ap column_in (sym p) ∙ n))) in
-          rw (e, n, z)
-      go Cells n e =
-          let own : eqb (cell_of q.place q.key) (cell_of t 0) ≡ eqb q.place t = fits (eqb-true q.fault 0 e) n t timer in
-          ap (λ (w : Option (ℕ × ℕ)). get_or (set_cells l (also w [])) (cell_of t 0) 0) (writes e n)
+          rw (n, z)
+      go None n =
+          let own : eqb (cell_of q.place q.key) (cell_of t 0) ≡ eqb q.place t = (fits n).1 t timer in
+          let writes : cell_write (meant s (Ok q)) ≡ some (cell_of q.place q.key, q.value) = rw n in
+          ap (λ (w : Option (ℕ × ℕ)). get_or (set_cells l (also w [])) (cell_of t 0) 0) writes
           ∙ by_bool (eqb q.place t)
-          (λ p. rw (e, p, eqb-true (cell_of q.place q.key) (cell_of t 0) (own ∙ p))
+          (λ p. rw (p, eqb-true (cell_of q.place q.key) (cell_of t 0) (own ∙ p))
           (get_or-set_same l (cell_of t 0) q.value 0 (omega (arith, (timer-place t timer).1))))
-          (λ p. rw (e, p)
+          (λ p. rw p
           (get_or-set_other l (cell_of q.place q.key) (cell_of t 0) q.value 0 (λ r. eqb-false (cell_of q.place q.key) (cell_of t 0) (own ∙ p) (sym r))))
 
--- a kept binding that writes a timer has a number of four octets, and writes no other timer's cell
-pub timer-fits : (q : Kept) (t : ℕ) → is_timer t ≡ true → (q.fault ≡ 0 → column_in q.place ≡ Cells → (q.value < 2 ^ 32) × OwnCell q.place q.key)
-    → (eqb q.fault 0 && eqb q.place t) ≡ true → q.value < 2 ^ 32
-timer-fits q t timer fits e =
-    let p = both (eqb q.fault 0) (eqb q.place t) e in
-    (fits (eqb-true q.fault 0 p.0) (ap column_in (eqb-true q.place t p.1) ∙ timer-no-column t timer)).0
+-- a kept binding that writes a timer has a number of four octets
+pub timer-fits : (q : Kept) (t : ℕ) → is_timer t ≡ true → TimerFits (Ok q) → q.place ≡ t → q.value < 2 ^ 32
+timer-fits q t timer fits p = (fits (ap column_in p ∙ timer-no-column t timer)).0
 
 -- the resulting timer after one more kept binding
-pub timer-more : (c : Content) (s : List ℕ) (kept : List Kept) (i : ℕ) (d : Kept) (t : ℕ) → i < length kept → is_timer t ≡ true → length c.cells ≡ many_cells
-    → ((get_or kept i d).fault ≡ 0 → column_in (get_or kept i d).place ≡ Cells → OwnCell (get_or kept i d).place (get_or kept i d).key)
-    → timer_in (resulting_cells c (meant_by s kept (i + 1))) t ≡ timer_by t (timer_in (resulting_cells c (meant_by s kept i)) t) (get_or kept i d)
+pub timer-more : (c : Content) (s : List ℕ) (kept : List (Result Kept Fault)) (i : ℕ) (d : Result Kept Fault) (t : ℕ) → i < length kept → is_timer t ≡ true
+    → length c.cells ≡ many_cells → TimerFits (get_or kept i d)
+    → timer_in (resulting_cells c (meant_by s (take (i + 1) kept))) t ≡ timer_by t (timer_in (resulting_cells c (meant_by s (take i kept))) t) (get_or kept i d)
 unfolding gather
 timer-more c s kept i d t h timer long fits =
-    let before : List Judged = meant_by s kept i in
+    let before : List Judged = meant_by s (take i kept) in
     let last : List Judged = meant s (get_or kept i d) ∷ [] in
-    let more : meant_by s kept (i + 1) ≡ before ++ last = rw (add-one, take-suc kept i d h) (map-append (meant s) (take i kept) (get_or kept i d ∷ [])) in
+    let more : meant_by s (take (i + 1) kept) ≡ before ++ last = rw (add-one, take-suc kept i d h) (map-append (meant s) (take i kept) (get_or kept i d ∷ [])) in
     ap (λ (m : List Judged). timer_in (resulting_cells c m) t) more
     ∙ ap (λ (ws : List (ℕ × ℕ)). timer_in (set_cells c.cells ws) t) (gather_append cell_write before last)
     ∙ ap (λ (x : List ℕ). timer_in x t) (cells-append c.cells (gather cell_write before) (gather cell_write last))
-    ∙ timer-one s (get_or kept i d) t timer fits (resulting_cells c before) (cells-length c.cells (gather cell_write before) ∙ long)
+    ∙ timer-one s t timer (resulting_cells c before) (cells-length c.cells (gather cell_write before) ∙ long) (get_or kept i d) fits

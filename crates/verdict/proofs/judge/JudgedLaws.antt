@@ -1,12 +1,13 @@
 -- The bindings of a message in turn: whether a name stands in an earlier binding, and one binding more. Assumes nothing.
-use Prim.Native.Nat.{ℕ, zero, suc, ◌+◌, ◌≤◌, ◌<◌}
+use Prim.Native.Nat.{ℕ, suc, ◌+◌, ◌≤◌, ◌<◌}
 use mathlib.Core.Path.{◌≡◌, refl, sym, ap, ◌∙◌}
 use mathlib.Core.Bool.{Bool, true, false, cond, ◌||◌, or_assoc, or_comm, or-false}
 use mathlib.Core.List.{List, [], ◌∷◌, ◌++◌, map, map-append, map-map}
 use native.Mathlib.Numerals.{add-one}
 use native.Mathlib.Omega.{arith}
-use lib.ListN.{length, get_or, take, drop, set, replicate, length-map, length-set, drop_of_length-le, get_or-map}
-use lib.Seq.{length-take-le, get_or-take, drop-cons, take-suc, take-suc-set, get_or-set_same, get_or-set_other}
+use lib.ListN.{length, get_or, take, drop, set, length-map, drop_of_length-le, get_or-map}
+use lib.Seq.{drop-cons, take-suc, take-suc-set, get_or-set_same, get_or-set_other}
+use Rattle.std.specs.Prelude.{Result, Err}
 use Rattle.octets.specs.Parts.{same}
 use Rattle.octets.proofs.BoolLaws.{by-eq}
 use Rattle.names.specs.declared.model.Model.{Model}
@@ -14,35 +15,33 @@ use Rattle.message.specs.Request.{no_binding}
 use Rattle.message.specs.declared.request.Binding.{Binding}
 use Rattle.answer.specs.Judge.{Asked, Judged, bad, alone, group_named, among, judged_from}
 use Rattle.answer.specs.Respond.{asked_at}
+use Rattle.answer.specs.declared.faults.Fault.{Fault}
+use Rattle.answer.specs.declared.faults.Fault.TheVariants.{GenErr}
 use Rattle.verdict.specs.declared.judge.Kept.{Kept}
-use Rattle.verdict.specs.Kept.{kept_fault, meant, bare, meant_by, judged_in, named_before}
+use Rattle.verdict.specs.Kept.{meant, bare, meant_by, judged_in, named_before, Within}
 
--- a binding's name, and the names of the first i bindings
+-- a binding's name, and those of earlier ones
 abbrev pub name_of : List ℕ → Binding → List ℕ
 name_of s b = (asked_at s b).name
 
-abbrev pub names_to : List ℕ → List Binding → ℕ → List (List ℕ)
-names_to s bs i = map (name_of s) (take i bs)
+abbrev pub names_of : List ℕ → List Binding → List (List ℕ)
+names_of s bs = map (name_of s) bs
 
-module _ (s : List ℕ) (bs : List Binding) (i : ℕ) (enough : i ≤ length bs) (x : List ℕ) where
-  count-names : length (names_to s bs i) ≡ i
-  count-names = length-map (take i bs) (name_of s) ∙ length-take-le i bs enough
-
+module _ (s : List ℕ) (bs : List Binding) (x : List ℕ) where
   -- a turn of the comparison with the earlier names
-  pub among-turn : (j : ℕ) → j < i
-      → among x (drop j (names_to s bs i)) ≡ (same x (name_of s (get_or bs j no_binding)) || among x (drop (j + 1) (names_to s bs i)))
+  pub among-turn : (j : ℕ) → j < length bs
+      → among x (drop j (names_of s bs)) ≡ (same x (name_of s (get_or bs j no_binding)) || among x (drop (j + 1) (names_of s bs)))
   unfolding among
   among-turn j h =
       rw (
         add-one,
-        drop-cons (names_to s bs i) j (name_of s no_binding) (omega (arith, count-names)),
-        get_or-map (name_of s) (take i bs) j no_binding,
-        get_or-take i bs j no_binding h,
+        drop-cons (names_of s bs) j (name_of s no_binding) (omega (arith, length-map bs (name_of s))),
+        get_or-map (name_of s) bs j no_binding,
       )
 
-  pub among-end : (j : ℕ) → i ≤ j → among x (drop j (names_to s bs i)) ≡ false
+  pub among-end : (j : ℕ) → length bs ≤ j → among x (drop j (names_of s bs)) ≡ false
   unfolding among
-  among-end j h = rw (drop_of_length-le (names_to s bs i) {i = j} (omega (arith, count-names)))
+  among-end j h = rw (drop_of_length-le (names_of s bs) {i = j} (omega (arith, length-map bs (name_of s))))
 
 -- one binding more at the end of a message: its name may stand among the others or among those seen before them
 module _ (n : Model) (a : Asked) where
@@ -57,75 +56,60 @@ module _ (n : Model) (a : Asked) where
       sym (or_assoc m (same a.name x.name) (among a.name seen)) ∙ ap (λ (t : Bool). t || among a.name seen) (or_comm m (same a.name x.name)) in
       rw (one_more (x.name ∷ seen) xs, e)
 
--- what stands where no kept binding was stored
-abbrev nothing_kept : Kept
-nothing_kept = kept_fault 5
-
-all_none : (m j : ℕ) → get_or (replicate m nothing_kept) j nothing_kept ≡ nothing_kept
-all_none zero j = refl
-all_none (suc m) zero = refl
-all_none (suc m) (suc j) = all_none m j
-
--- the first i bindings are judged, and the kept bindings after theirs are as they were
-pub record JudgedTo (n : Model) (s : List ℕ) (bs : List Binding) (kept : List Kept) (i : ℕ) : Type 0 where
-  pub sixteen : length kept ≡ 16
-  pub left : (j : ℕ) → i ≤ j → get_or kept j nothing_kept ≡ nothing_kept
-  pub done : meant_by s kept i ≡ map bare (judged_in n s bs i)
+-- the first i bindings are judged
+pub record JudgedTo (n : Model) (s : List ℕ) (bs : List Binding) (kept : List (Result Kept Fault)) (i : ℕ) : Type 0 where
+  pub done : meant_by s (take i kept) ≡ map bare (judged_in n s (take i bs))
   -- every kept binding's content stands in the request
-  pub inside : (j : ℕ) → (get_or kept j nothing_kept).at + (get_or kept j nothing_kept).len ≤ length s
+  pub inside : (j : ℕ) (d : Result Kept Fault) → j < i → Within s (get_or kept j d)
 
-get_d_any : (kept : List Kept) (j : ℕ) (d e : Kept) → j < length kept → get_or kept j d ≡ get_or kept j e
-get_d_any [] j d e h = absurd (omega arith)
-get_d_any (q ∷ kept) zero d e h = refl
-get_d_any (q ∷ kept) (suc j) d e h = get_d_any kept j d e (omega arith)
-
-pub inside-at : (n : Model) (s : List ℕ) (bs : List Binding) (kept : List Kept) (i : ℕ) → JudgedTo n s bs kept i → (j : ℕ) (d : Kept) → j < 16
-    → (get_or kept j d).at + (get_or kept j d).len ≤ length s
-inside-at n s bs kept i w j d h = rw (get_d_any kept j d nothing_kept (omega (arith, w.sixteen))) (w.inside j)
-
-pub judged-none : (n : Model) (s : List ℕ) (bs : List Binding) → JudgedTo n s bs (replicate 16 nothing_kept) 0
+pub judged-none : (n : Model) (s : List ℕ) (bs : List Binding) (kept : List (Result Kept Fault)) → JudgedTo n s bs kept 0
 unfolding judged_from
-judged-none n s bs = record { sixteen = refl; left = λ j h. all_none 16 j; done = refl; inside = λ j. rw (all_none 16 j) (omega arith) }
+judged-none n s bs kept = record { done = refl; inside = λ j d h. absurd (omega arith) }
 
-module _ (n : Model) (s : List ℕ) (bs : List Binding) (i : ℕ) (full : length bs ≡ 16) (h : i < 16) where
-  abbrev asked : Asked
-  asked = asked_at s (get_or bs i no_binding)
+module _ (n : Model) (s : List ℕ) (bs : List Binding) (i : ℕ) (h : i < length bs) where
+  abbrev b : Binding
+  b = get_or bs i no_binding
 
   abbrev verdict : Judged
-  verdict = cond (named_before s bs i) (bad 5 (group_named (alone n asked))) (alone n asked)
+  verdict = cond (named_before s (take i bs) b) (bad 5 (group_named (alone n (asked_at s b)))) (alone n (asked_at s b))
 
-  judged-more : judged_in n s bs (suc i) ≡ judged_in n s bs i ++ (verdict ∷ [])
+  judged-more : judged_in n s (take (suc i) bs) ≡ judged_in n s (take i bs) ++ (verdict ∷ [])
   unfolding among
   judged-more =
       rw (
-        take-suc bs i no_binding (omega arith),
-        map-append (asked_at s) (take i bs) (get_or bs i no_binding ∷ []),
-        one_more n asked [] (map (asked_at s) (take i bs)),
+        take-suc bs i no_binding h,
+        map-append (asked_at s) (take i bs) (b ∷ []),
+        one_more n (asked_at s b) [] (map (asked_at s) (take i bs)),
         map-map (λ (x : Asked). x.name) (asked_at s) (take i bs),
         or-false,
       )
 
-  module _ (kept : List Kept) (w : JudgedTo n s bs kept i) where
-    kept_more : (later : List Kept) (q : Kept) → take (suc i) later ≡ take i kept ++ (q ∷ []) → meant s q ≡ bare verdict
-        → meant_by s later (i + 1) ≡ map bare (judged_in n s bs (i + 1))
-    kept_more later q e m =
-        rw (add-one, e, judged-more, map-append (meant s) (take i kept) (q ∷ []), map-append bare (judged_in n s bs i) (verdict ∷ []), w.done, m)
+  module _ (kept : List (Result Kept Fault)) (l : i < length kept) (w : JudgedTo n s bs kept i) where
+    -- one kept binding more
+    more : (q : Result Kept Fault) → meant s q ≡ bare verdict → Within s q → JudgedTo n s bs (set kept i q) (i + 1)
+    more q m o =
+        record {
+          done =
+              rw (
+                add-one,
+                take-suc-set kept i q l,
+                judged-more,
+                map-append (meant s) (take i kept) (q ∷ []),
+                map-append bare (judged_in n s (take i bs)) (verdict ∷ []),
+                w.done,
+                m,
+              );
+          inside =
+              λ j d k.
+              by-eq j i (λ p. rw (p, get_or-set_same kept i q d l) o)
+              (λ p. rw (get_or-set_other kept i j q d (λ r. p r)) (w.inside j d (omega arith)));
+        }
 
-    -- a name that stands in an earlier binding leaves its kept binding as it was
-    pub judged-again : named_before s bs i ≡ true → JudgedTo n s bs kept (i + 1)
-    judged-again e = record {
-      sixteen = w.sixteen;
-      left = λ j l. w.left j (omega arith);
-      done = kept_more kept nothing_kept (take-suc kept i nothing_kept (omega (arith, w.sixteen)) ∙ rw (w.left i (omega arith))) (rw e);
-      inside = w.inside;
-    }
+    -- a name that stands in an earlier binding
+    pub judged-again : named_before s (take i bs) b ≡ true → JudgedTo n s bs (set kept i (Err GenErr)) (i + 1)
+    judged-again e = more (Err GenErr) (rw e) tt
 
     -- any other is judged by itself
-    pub judged-fresh : named_before s bs i ≡ false → (q : Kept) → meant s q ≡ bare (alone n asked) → q.at + q.len ≤ length s
+    pub judged-fresh : named_before s (take i bs) b ≡ false → (q : Result Kept Fault) → meant s q ≡ bare (alone n (asked_at s b)) → Within s q
         → JudgedTo n s bs (set kept i q) (i + 1)
-    judged-fresh e q m l = record {
-      sixteen = length-set kept i q ∙ w.sixteen;
-      left = λ j k. get_or-set_other kept i j q nothing_kept (omega arith) ∙ w.left j (omega arith);
-      done = kept_more (set kept i q) q (take-suc-set kept i q (omega (arith, w.sixteen))) (rw e m);
-      inside = λ j. by-eq j i (λ p. rw (p, get_or-set_same kept i q nothing_kept (omega (arith, w.sixteen))) l) (λ p. rw (get_or-set_other kept i j q nothing_kept (λ r. p r)) (w.inside j));
-    }
+    judged-fresh e q m o = more q (rw e m) o

@@ -9,6 +9,7 @@ use native.Mathlib.Omega.{arith}
 use lib.Dec.{eqb, leb}
 use lib.ListN.{length}
 use borrow.Author.Tests.{eqb-true, eq-eqb, ne_eqb, le-leb, lt-leb, not-true}
+use Rattle.std.specs.Prelude.{Result, Ok, Err}
 use Rattle.octets.specs.Numbers.{be_at}
 use Rattle.octets.specs.Ports.{set_of, only_to}
 use Rattle.names.specs.Table.{object_count, objects, object_at}
@@ -19,13 +20,14 @@ use Rattle.names.specs.Rule.{in_range, takes}
 use Rattle.names.proofs.RuleLaws.{takes-unstepped, step_is, plain_step, plain-frames}
 use Rattle.names.specs.declared.model.Model.{Model}
 use Rattle.names.specs.Places.{stp_priority, stp_port_priority, sr_port_largest_frame, pair_bridge_num, pair_bridge_state, static_allowed, static_state, vlan_name, vlan_egress, vlan_forbidden, vlan_untagged, vlan_row_status}
+use Rattle.answer.specs.declared.faults.Fault.{Fault}
+use Rattle.answer.specs.declared.faults.Fault.TheVariants.{WrongType, WrongLength, WrongValue, NotWritable}
 use Rattle.answer.specs.Writes.{status, attribute}
 use Rattle.block.specs.declared.tables.Table.{Table}
 use Rattle.block.specs.declared.tables.Table.TheVariants.{Vlan as vlan, Static as static, Pair as pair}
 use Rattle.answer.specs.Tables.{egress, forbidden, untagged, allowed, bridge_number, ColumnOf, table_at, status_said, integer_said}
 use Rattle.answer.specs.Judge.{row, cell, ContentSaid, right, tag_of, unless, said_to, value_in, value_at, length_ok, is_writable, content_said}
-use Rattle.verdict.specs.declared.judge.Said.{Said}
-use Rattle.verdict.specs.Kept.{is_column, written_as, content_said_of, wrongly, said_number, said_ports}
+use Rattle.verdict.specs.Kept.{is_column, written_as, content_said_of, said_number, said_ports}
 use Rattle.verdict.proofs.columns.ColumnLaws.{elsewhere}
 
 -- a test of every number below n
@@ -66,7 +68,7 @@ neither true b e = absurd (false≢true e)
 neither false b e = (refl, e)
 
 -- an answer of the right type means what its length and its value decide
-abbrev Means : Model → ℕ → List ℕ → Said → Type 0
+abbrev Means : Model → ℕ → List ℕ → Result ℕ Fault → Type 0
 Means n i xs q = content_said_of i xs q ≡ unless (length_ok (object_at i) xs) 8 (value_at n i xs)
 
 -- the port sets and the VLAN name, each at its place
@@ -75,7 +77,7 @@ module _ (n : Model) (xs : List ℕ) where
       → content_said_of i xs (said_ports n xs) ≡ unless (leb (length xs) 8) 8 (said_to t (cond (only_to 64 n.ports (set_of xs)) (some c) none))
   ports-say t i c e = go (leb (length xs) 8) (only_to 64 n.ports (set_of xs))
     where
-      go : (a b : Bool) → content_said_of i xs (cond a (cond b (record { fault = 0; value = set_of xs }) (wrongly 10)) (wrongly 8))
+      go : (a b : Bool) → content_said_of i xs (cond a (cond b (Ok (set_of xs)) (Err WrongValue)) (Err WrongLength))
           ≡ unless a 8 (said_to t (cond b (some c) none))
       go true true = λ z. right (λ k. e k z)
       go true false = refl
@@ -97,17 +99,17 @@ module _ (n : Model) (xs : List ℕ) where
   unfolding objects
   untagged-says = ports-say vlan vlan_untagged (attribute (untagged (set_of xs))) (λ k. refl)
 
-  name-says : leb (length xs) 32 ≡ true → Means n vlan_name xs (wrongly 0)
+  name-says : leb (length xs) 32 ≡ true → Means n vlan_name xs (Ok 0)
   unfolding objects
   name-says h = rw h
 
 -- what a number says to an object without steps
-abbrev range_said : ℕ → ℕ → Said
-range_said i v = cond (in_range (object_at i) v && not (eqb i vlan_row_status && eqb v 3)) (record { fault = 0; value = v }) (wrongly 10)
+abbrev range_said : ℕ → ℕ → Result ℕ Fault
+range_said i v = cond (in_range (object_at i) v && not (eqb i vlan_row_status && eqb v 3)) (Ok v) (Err WrongValue)
 
 unstepped : (e i v : ℕ) → (i ≡ stp_priority → ⊥) → (i ≡ stp_port_priority → ⊥) → (i ≡ sr_port_largest_frame → ⊥) → said_number e i v ≡ range_said i v
 unstepped e i v p q f =
-    ap (λ (t : Bool). cond (t && not (eqb i vlan_row_status && eqb v 3)) (record { fault = 0; value = v }) (wrongly 10))
+    ap (λ (t : Bool). cond (t && not (eqb i vlan_row_status && eqb v 3)) (Ok v) (Err WrongValue))
     (takes-unstepped e (object_at i) v (step_is e (object_at i) (plain_step i p q)) (plain-frames i f))
 
 -- RowStatus takes 1, 2, 4, 5 and 6, static Status 2 to 5
@@ -158,7 +160,7 @@ pair-state xs (suc (suc (suc (suc u)))) =
 pair-number : (xs : List ℕ) (v : ℕ) → content_said_of pair_bridge_num xs (range_said pair_bridge_num v) ≡ said_to pair (integer_said pair pair_bridge_num v)
 pair-number xs v = go (in_range (object_at pair_bridge_num) v)
   where
-    go : (t : Bool) → content_said_of pair_bridge_num xs (cond (t && not (eqb pair_bridge_num vlan_row_status && eqb v 3)) (record { fault = 0; value = v }) (wrongly 10))
+    go : (t : Bool) → content_said_of pair_bridge_num xs (cond (t && not (eqb pair_bridge_num vlan_row_status && eqb v 3)) (Ok v) (Err WrongValue))
         ≡ said_to pair (map attribute (cond t (some (bridge_number v)) none))
     go true = refl
     go false = refl
@@ -198,7 +200,7 @@ module _ (n : Model) (i : ℕ) (xs : List ℕ) (writable : is_writable (object_a
   cell-number : (v : ℕ) → content_said_of i xs (said_number n.edition i v) ≡ in_cell v
   cell-number v = go (takes n.edition (object_at i) v)
     where
-      go : (t : Bool) → content_said_of i xs (cond (t && not (eqb i vlan_row_status && eqb v 3)) (record { fault = 0; value = v }) (wrongly 10))
+      go : (t : Bool) → content_said_of i xs (cond (t && not (eqb i vlan_row_status && eqb v 3)) (Ok v) (Err WrongValue))
           ≡ unless t 10 (right (λ k. cell i k v))
       go true = rw (elsewhere (is_column vlan) i vlan_row_status refl out-of-rows.0, out-of-rows.0, out-of-rows.1, out-of-rows.2)
       go false = refl
@@ -259,33 +261,33 @@ not-text Ports i h p = absurd (true≢false h)
 
 -- each answer, by the tests that led to it
 module _ (n : Model) (i tag : ℕ) (xs : List ℕ) where
-  pub read_only : is_writable (object_at i).access ≡ false → content_said_of i xs (wrongly 17) ≡ content_said n i tag xs
+  pub read_only : is_writable (object_at i).access ≡ false → content_said_of i xs (Err NotWritable) ≡ content_said n i tag xs
   unfolding content_said
   read_only w = rw w
 
   module _ (writable : is_writable (object_at i).access ≡ true) where
-    pub wrong_type : (tag ≡ tag_of (object_at i).syntax → ⊥) → content_said_of i xs (wrongly 7) ≡ content_said n i tag xs
+    pub wrong_type : (tag ≡ tag_of (object_at i).syntax → ⊥) → content_said_of i xs (Err WrongType) ≡ content_said n i tag xs
     unfolding content_said
     wrong_type t = rw (writable, ne_eqb tag (tag_of (object_at i).syntax) t)
 
     module _ (typed : tag ≡ tag_of (object_at i).syntax) where
-      read-on : (q : Said) → Means n i xs q → content_said_of i xs q ≡ content_said n i tag xs
+      read-on : (q : Result ℕ Fault) → Means n i xs q → content_said_of i xs q ≡ content_said n i tag xs
       unfolding content_said
       read-on q m = rw (writable, eq-eqb tag (tag_of (object_at i).syntax) typed) m
 
-      pub too_long : (object_at i).syntax ≡ Text → (object_at i).high < length xs → content_said_of i xs (wrongly 8) ≡ content_said n i tag xs
-      too_long y h = read-on (wrongly 8) (rw (y, lt-leb (length xs) (object_at i).high h))
+      pub too_long : (object_at i).syntax ≡ Text → (object_at i).high < length xs → content_said_of i xs (Err WrongLength) ≡ content_said n i tag xs
+      too_long y h = read-on (Err WrongLength) (rw (y, lt-leb (length xs) (object_at i).high h))
 
       module _ (here : i < object_count) where
         in_place_lem : (y : Syntax) → (object_at i).syntax ≡ y → place_for y i ≡ true
         in_place_lem y e = rw (writable, e) at (every-below in_place object_count all-in-place i here)
 
-        pub named : (object_at i).syntax ≡ Text → length xs ≤ (object_at i).high → content_said_of i xs (wrongly 0) ≡ content_said n i tag xs
+        pub named : (object_at i).syntax ≡ Text → length xs ≤ (object_at i).high → content_said_of i xs (Ok 0) ≡ content_said n i tag xs
         unfolding objects
         named y h =
             let p : i ≡ vlan_name = eqb-true i vlan_name (in_place_lem Text y) in
             let l : leb (length xs) 32 ≡ true = le-leb (length xs) 32 (rw p at h) in
-            read-on (wrongly 0) (rw p (name-says n xs l))
+            read-on (Ok 0) (rw p (name-says n xs l))
 
         pub ports-said : (object_at i).syntax ≡ Ports → content_said_of i xs (said_ports n xs) ≡ content_said n i tag xs
         ports-said y = read-on (said_ports n xs) (ports-mean n xs i (in_place_lem Ports y))

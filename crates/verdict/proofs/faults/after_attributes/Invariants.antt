@@ -3,8 +3,9 @@ use mathlib.Core.Path.{◌≡◌}
 use mathlib.Core.Bool.{not}
 use mathlib.Core.Option.{Option}
 use mathlib.Core.List.{List}
-use Prim.Native.Nat.{ℕ, ◌≤◌, ◌-◌}
-use lib.ListN.{length, take, drop}
+use Prim.Native.Nat.{ℕ}
+use lib.ListN.{drop}
+use Rattle.std.specs.Prelude.{Some}
 use Rattle.names.specs.declared.model.Model.{Model}
 use Rattle.block.specs.declared.rows.VlanRow.{VlanRow}
 use Rattle.answer.specs.Writes.{is_status, those, play_row}
@@ -15,13 +16,7 @@ use Rattle.verdict.specs.Kept.{meant_by, sets_of}
 use Rattle.verdict.proofs.faults.PortSetLaws.{Reached}
 use Rattle.verdict.proofs.faults.after_attributes.Given as goal
 
-abbrev pub invariant-loop-i : goal.invariant-loop-i
-invariant-loop-i l =
-    (l.i ≤ l.count)
-    × (length l.kept ≡ 16)
-    × ((m : Model) (s : List ℕ) (o : Option VlanRow) → l.sets ≡ sets_of o
-    → Reached m (λ c. not (is_status c)) s l.key (drop l.i (take l.count l.kept)) (record { there = l.sets.there; egress = l.egress; forbidden = l.forbidden })
-    (play_row (step m vlan) l.key (those (λ c. not (is_status c)) (writes_to vlan (meant_by s l.kept l.count))) o))
-
-abbrev pub decreases-loop-i : goal.decreases-loop-i
-decreases-loop-i l = l.count - l.i
+abbrev pub invariant-loop-k : goal.invariant-loop-k
+invariant-loop-k l =
+    (m : Model) (s : List ℕ) (o : Option VlanRow) → Some l.initial.after ≡ sets_of o
+    → Reached m (λ c. not (is_status c)) s l.key (drop l.k-index l.kept) (Some l.after) (play_row (step m vlan) l.key (those (λ c. not (is_status c)) (writes_to vlan (meant_by s l.kept))) o)

@@ -2,8 +2,8 @@
 use mathlib.Core.Path.{◌≡◌}
 use mathlib.Core.Option.{Option}
 use mathlib.Core.List.{List}
-use Prim.Native.Nat.{ℕ, ◌≤◌, ◌-◌}
-use lib.ListN.{length, take, drop}
+use Prim.Native.Nat.{ℕ}
+use lib.ListN.{drop}
 use Rattle.names.specs.declared.model.Model.{Model}
 use Rattle.block.specs.declared.rows.VlanRow.{VlanRow}
 use Rattle.answer.specs.Writes.{is_status, those, play_row}
@@ -14,12 +14,7 @@ use Rattle.verdict.specs.Kept.{meant_by, sets_of}
 use Rattle.verdict.proofs.faults.PortSetLaws.{Reached}
 use Rattle.verdict.proofs.faults.after_statuses.Given as goal
 
-abbrev pub invariant-loop-i : goal.invariant-loop-i
-invariant-loop-i l =
-    (l.i ≤ l.count)
-    × (length l.kept ≡ 16)
-    × ((m : Model) (s : List ℕ) (o : Option VlanRow) → l.initial.after ≡ sets_of o
-    → Reached m is_status s l.key (drop l.i (take l.count l.kept)) l.after (play_row (step m vlan) l.key (those is_status (writes_to vlan (meant_by s l.kept l.count))) o))
-
-abbrev pub decreases-loop-i : goal.decreases-loop-i
-decreases-loop-i l = l.count - l.i
+abbrev pub invariant-loop-k : goal.invariant-loop-k
+invariant-loop-k l =
+    (m : Model) (s : List ℕ) (o : Option VlanRow) → l.initial.after ≡ sets_of o
+    → Reached m is_status s l.key (drop l.k-index l.kept) l.after (play_row (step m vlan) l.key (those is_status (writes_to vlan (meant_by s l.kept))) o)

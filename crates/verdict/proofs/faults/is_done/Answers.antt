@@ -1,29 +1,27 @@
 use mathlib.Core.Path.{refl, sym, ◌∙◌}
-use native.Mathlib.Omega.{arith}
-use borrow.Author.Rules.{rules}
-use Rattle.octets.proofs.ListLaws.{left-none}
-use Rattle.verdict.specs.Kept.{is_done}
-use Rattle.verdict.proofs.faults.StatusLaws.{done-turn}
+use Rattle.verdict.proofs.faults.StatusLaws.{done-turn, done-none}
 use Rattle.verdict.proofs.faults.is_done.Goals as goal
+use Rattle.verdict.proofs.faults.is_done.Goals.{in-Ok+else-key-q, in_default}
 
-pub loop-i-init : goal.loop-i-init
-loop-i-init c = (omega arith, search rules, refl)
+pub loop-k-init : goal.loop-k-init
+loop-k-init c = refl
 
 pub returns-then-key-q : goal.returns-then-key-q
 returns-then-key-q c =
-    let l = c.loop-i in
     let a = c.args in
-    sym (l.invariant.2 ∙ done-turn a.act a.t a.key a.kept a.count l.i (omega arith) (omega arith) ∙ rw (← c.does_to.ensures, c.if-key-q.true))
+    sym (c.loop-k.invariant ∙ done-turn a.act a.t a.key a.kept.now c.loop-k.k-index c.loop-k-test.true ∙ rw (c.in-Ok.is, ← c.does_to.ensures, c.if-key-q.true))
 
-pub loop-i-preserved : goal.loop-i-preserved
-loop-i-preserved c =
-    let l = c.loop-i in
-    let a = c.args in (
-      omega arith,
-      l.invariant.1,
-      l.invariant.2 ∙ done-turn a.act a.t a.key a.kept a.count l.i (omega arith) (omega arith) ∙ rw (← c.does_to.ensures, c.if-key-q.false),
-    )
+pub loop-k-preserved : goal.loop-k-preserved
+loop-k-preserved c =
+    let a = c.args in
+    c.loop-k.invariant
+    ∙ done-turn a.act a.t a.key a.kept.now c.loop-k.k-index c.loop-k-test.true
+    ∙ elim c.match-k.branch [
+      | in-Ok+else-key-q w ↦ rw (w.in-Ok.is, ← w.does_to.ensures, w.if-key-q.false)
+      | in_default w ↦ rw w.in_default.is
+    ]
 
 pub returns : goal.returns
-unfolding is_done
-returns c = sym (c.loop-i.invariant.2 ∙ rw (left-none c.args.kept c.args.count c.loop-i.i (omega arith)))
+returns c =
+    let a = c.args in
+    sym (c.loop-k.invariant ∙ done-none a.act a.t a.key a.kept.now c.loop-k.k-index c.loop-k-test.false)

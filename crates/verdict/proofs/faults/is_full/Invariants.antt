@@ -1,7 +1,5 @@
 -- `verdict::faults::is_full` meets its contract. The invariant: what is counted and what the kept bindings left make and remove comes to the whole. Assumes nothing.
-use mathlib.Core.Path.{◌≡◌}
-use Prim.Native.Nat.{◌≤◌, ◌-◌}
-use lib.ListN.{length}
+use Prim.Native.Nat.{◌≤◌}
 use Rattle.block.specs.Image.{content_of}
 use Rattle.block.specs.Lookup.{keys_of}
 use Rattle.block.specs.Tables.{rows_of}
@@ -9,9 +7,6 @@ use Rattle.answer.specs.Get.{elem}
 use Rattle.verdict.proofs.faults.StatusLaws.{Counted}
 use Rattle.verdict.proofs.faults.is_full.Given as goal
 
-abbrev pub invariant-loop-i : goal.invariant-loop-i
-invariant-loop-i l =
-    (l.i ≤ l.count) × (length l.kept ≡ 16) × (l.initial.rows ≤ 256) × (l.initial.room ≤ 256) × Counted l.t (λ k. elem k (keys_of (rows_of l.t (content_of l.block)))) l.initial.rows l.initial.room l.kept l.count l.i l.rows l.room
-
-abbrev pub decreases-loop-i : goal.decreases-loop-i
-decreases-loop-i l = l.count - l.i
+abbrev pub invariant-loop-k : goal.invariant-loop-k
+invariant-loop-k l =
+    (l.initial.rows ≤ 256) × (l.initial.room ≤ 256) × Counted l.t (λ k. elem k (keys_of (rows_of l.t (content_of l.block)))) l.initial.rows l.initial.room l.kept l.k-index l.rows l.room

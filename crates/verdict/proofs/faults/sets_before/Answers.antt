@@ -10,19 +10,19 @@ use Rattle.block.specs.declared.tables.Table.TheVariants.{Vlan as vlan}
 use Rattle.instances.proofs.SearchLaws.{rows-ascend}
 use Rattle.verdict.proofs.faults.sets_before.Goals as goal
 
-pub find_row-place-requires : goal.find_row-place-requires
-find_row-place-requires c = (legal-sized _ c.requires, rows-ascend _ c.requires vlan)
+pub find_row-requires : goal.find_row-requires
+find_row-requires c = (legal-sized _ c.requires, rows-ascend _ c.requires vlan)
 
 pub vlan-row-requires : goal.vlan-row-requires
 vlan-row-requires c = (
   legal-sized _ c.requires,
-  rw length-map at (find_at _ _ _ (sym c.find_row-place.ensures ∙ c.in-At.is)).0,
+  rw length-map at (find_at _ _ _ (sym c.find_row.ensures ∙ c.in-Ok.is)).0,
 )
 
-pub returns-in-At : goal.returns-in-At
-returns-in-At c = rw (c.vlan-row.ensures, find-lookup _ _ _ no_vlan (sym c.find_row-place.ensures ∙ c.in-At.is))
+pub returns-in-Ok : goal.returns-in-Ok
+returns-in-Ok c = rw (c.vlan-row.ensures, find-lookup _ _ _ no_vlan (sym c.find_row.ensures ∙ c.in-Ok.is))
 
-pub returns-in-Absent : goal.returns-in-Absent
-returns-in-Absent c =
+pub returns-in-Err : goal.returns-in-Err
+returns-in-Err c =
     let v = valid-parts _ (legal-valid _ c.requires).0 in
-    rw (find-missing _ _ _ (rows_ok-rising _ _ _ 0 _ (v.rows_in vlan)) (sym c.find_row-place.ensures ∙ c.in-Absent.is))
+    rw (find-missing _ _ _ (rows_ok-rising _ _ _ 0 _ (v.rows_in vlan)) (sym c.find_row.ensures ∙ c.in-Err.is))

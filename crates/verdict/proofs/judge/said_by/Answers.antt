@@ -34,12 +34,12 @@ module _ (s : List ℕ) (i : ℕ) (b : Binding) (w : Stands s b) {y : Syntax} (k
 
 pub returns-then-not-is_writable : goal.returns-then-not-is_writable
 returns-then-not-is_writable c =
-    rw c.wrong.ensures (read_only _ _ _ _
+    (read_only _ _ _ _
     (rw (← c.object-o.ensures, ← c.is_writable.ensures) c.if-not-is_writable.true))
 
 pub returns-then-b-tag_of : goal.returns-then-b-tag_of
 returns-then-b-tag_of c =
-    rw c.wrong-then-b-tag_of.ensures (wrong_type _ _ _ _
+    (wrong_type _ _ _ _
     (rw (← c.object-o.ensures, ← c.is_writable.ensures) c.if-not-is_writable.false)
     (rw (← c.object-o.ensures, ← c.tag_of.ensures) c.if-b-tag_of.true))
 
@@ -49,7 +49,7 @@ overflow_cast-b c = omega (arith, brief c.args.request.now c.args.b c.requires.3
 pub returns-then-o-b : goal.returns-then-o-b
 returns-then-o-b c =
     let a = c.args in
-    rw c.wrong-then-o-b.ensures (too_long _ _ _ _
+    (too_long _ _ _ _
     (rw (← c.object-o.ensures, ← c.is_writable.ensures) c.if-not-is_writable.false)
     (rw (← c.object-o.ensures, ← c.tag_of.ensures) c.if-b-tag_of.false)
     (rw (← c.object-o.ensures) c.in-Text.is)
@@ -58,7 +58,7 @@ returns-then-o-b c =
 pub returns-else-o-b : goal.returns-else-o-b
 returns-else-o-b c =
     let a = c.args in
-    rw c.right.ensures (named _ _ _ _
+    (named _ _ _ _
     (rw (← c.object-o.ensures, ← c.is_writable.ensures) c.if-not-is_writable.false)
     (rw (← c.object-o.ensures, ← c.tag_of.ensures) c.if-b-tag_of.false)
     c.requires.2

@@ -1,5 +1,4 @@
 -- `verdict::judge::said_number` meets its contract. Assumes nothing.
-use mathlib.Core.Path.{◌∙◌}
 use Rattle.names.proofs.RuleLaws.{step-positive}
 use Rattle.verdict.proofs.judge.said_number.Goals as goal
 
@@ -7,7 +6,7 @@ pub takes_value-requires : goal.takes_value-requires
 takes_value-requires c = rw c.object.ensures (step-positive c.args.i)
 
 pub returns-then-takes_value-not_ready : goal.returns-then-takes_value-not_ready
-returns-then-takes_value-not_ready c = c.right.ensures ∙ rw (← c.object.ensures, ← c.takes_value.ensures, c.if-takes_value-not_ready.true)
+returns-then-takes_value-not_ready c = rw (← c.object.ensures, ← c.takes_value.ensures, c.if-takes_value-not_ready.true)
 
 pub returns : goal.returns
-returns c = c.wrong.ensures ∙ rw (← c.object.ensures, ← c.takes_value.ensures, c.if-takes_value-not_ready.false)
+returns c = rw (← c.object.ensures, ← c.takes_value.ensures, c.if-takes_value-not_ready.false)
