@@ -1,15 +1,16 @@
 -- Which keys there are and which is the first above a name, by the place of a key among those of a table's rows. Assumes nothing.
 use mathlib.Core.Path.{◌≡◌, refl, sym, ap, ◌∙◌}
-use mathlib.Core.Bool.{true, false, ◌&&◌, or-true, or-false}
+use mathlib.Core.Bool.{true, false, or-true}
 use mathlib.Core.List.{List, [], ◌∷◌}
 use Prim.Native.Nat.{ℕ, zero, suc, ◌+◌, ◌-◌, ◌*◌, ◌≤◌, ◌<◌}
 use native.Mathlib.Nat.{not-suc-le-zero, le_of_suc-le-suc}
 use native.Mathlib.Omega.{arith}
-use lib.Dec.{eqb, leb, leb-suc-suc}
+use lib.Dec.{eqb}
 use lib.ListN.{length, get_or, take, drop}
 use borrow.Author.Tests.{eq-eqb, ne_eqb}
+use Rattle.std.specs.Prelude.{Ok, Err, is_ok}
 use Rattle.names.specs.SubIds.{subids}
-use Rattle.names.specs.Index.{bases, weight, limit, first_above, first_from, least, up_from}
+use Rattle.names.specs.Index.{bases, weight, limit, first_above, first_from, least}
 use Rattle.names.specs.declared.Shape.{Shape}
 use Rattle.names.specs.declared.Shape.TheVariants.{Scalar, Port, PortPriority, Vlan, Static, Pair}
 use Rattle.names.proofs.SubIdLaws.{subids-drop, subids-end}
@@ -18,19 +19,20 @@ use Rattle.names.proofs.IndexLaws.{AllBelow, first-from}
 use Rattle.octets.specs.Ascending.{Rising}
 use Rattle.block.specs.Image.{content_of}
 use Rattle.block.specs.Valid.{legal}
-use Rattle.block.specs.Lookup.{Ascending, find_key, keys_of}
+use Rattle.block.specs.Lookup.{Place, Ascending, find_key, keys_of}
 use Rattle.block.specs.Tables.{rows_of, shape_of}
 use Rattle.block.specs.declared.tables.Table.{Table}
-use Rattle.block.specs.declared.rows.Place.{Place}
-use Rattle.block.specs.declared.rows.Place.TheVariants.{At, Absent}
+use Rattle.block.specs.declared.tables.Table.TheVariants.{Vlan as vlan, Static as static, Pair as pair}
+use Rattle.block.specs.Content.{Content}
+use Rattle.instances.specs.declared.Keys.{Keys}
+use Rattle.instances.specs.declared.Keys.TheVariants.{Standing, Growing}
+use Rattle.instances.specs.Places.{keys_for, keys_at}
 use Rattle.block.proofs.ValidParts.{valid-parts, by-table}
 use Rattle.block.proofs.RoundLaws.{legal-valid}
 use Rattle.block.proofs.FindLaws.{rising-ascends, find_at, find_absent}
 use Rattle.answer.specs.Values.{keys_in}
 use Rattle.answer.specs.Get.{elem}
 use Rattle.answer.proofs.GetLaws.{rows-rise, keys-small}
-use Rattle.instances.specs.Places.{is_at}
-use Rattle.answer.proofs.StoredLaws.{elem-up}
 
 -- a legal block
 module _ (b : List ℕ) (ok : legal b ≡ true) where
@@ -75,14 +77,35 @@ limit-room Vlan = omega arith
 limit-room Static = omega arith
 limit-room Pair = omega arith
 
--- a scalar has the one key 0
-pub elem-scalar : (k : ℕ) → elem k (up_from 0 1) ≡ eqb k 0
-unfolding elem up_from
-elem-scalar k = or-false (eqb k 0)
+-- the keys that the code goes by are those of the shape
+pub keys-there : (c : Content) (s : Shape) (q : Keys) → q ≡ keys_for s c.ports → keys_at c q ≡ keys_in c s
+keys-there c s q e = ap (keys_at c) e ∙ go s
+  where
+    go : (s : Shape) → keys_at c (keys_for s c.ports) ≡ keys_in c s
+    go Scalar = refl
+    go Port = refl
+    go PortPriority = refl
+    go Vlan = refl
+    go Static = refl
+    go Pair = refl
 
--- n ports have the keys 1 to n
-pub elem-port : (k n : ℕ) → elem k (up_from 1 n) ≡ leb 1 k && leb k n
-elem-port k n = let e : 1 + n ≡ suc n = omega arith in elem-up k 1 n ∙ rw (e, leb-suc-suc k n)
+-- those that always stand are few
+pub standing-few : (s : Shape) (n a k : ℕ) → n ≤ 64 → Standing a k ≡ keys_for s n → a + k ≤ 65536
+standing-few Scalar n a k h e = let p : a ≡ 0 = cc in let q : k ≡ 1 = cc in omega arith
+standing-few Port n a k h e = let p : a ≡ 1 = cc in let q : k ≡ n = cc in omega arith
+standing-few PortPriority n a k h e = let p : a ≡ 8 = cc in let q : k ≡ 8 * n = cc in omega arith
+standing-few Vlan n a k h e = cc
+standing-few Static n a k h e = cc
+standing-few Pair n a k h e = cc
+
+-- a table whose rows have a shape
+pub growing-shape : (s : Shape) (n : ℕ) (t : Table) → Growing t ≡ keys_for s n → shape_of t ≡ s
+growing-shape Scalar n t e = cc
+growing-shape Port n t e = cc
+growing-shape PortPriority n t e = cc
+growing-shape Vlan n t e = let p : t ≡ vlan = cc in rw p
+growing-shape Static n t e = let p : t ≡ static = cc in rw p
+growing-shape Pair n t e = let p : t ≡ pair = cc in rw p
 
 elem_at : (k : ℕ) (ks : List ℕ) (i : ℕ) → i < length ks → get_or ks i 0 ≡ k → elem k ks ≡ true
 unfolding elem
@@ -96,9 +119,9 @@ elem-none k [] f = refl
 elem-none k (q ∷ ks) f = rw (ne_eqb k q (λ e. f 0 (sym e) (omega arith))) (elem-none k ks (λ j e l. f (suc j) e (omega arith)))
 
 -- a key is one of ascending keys where it is found at a place
-pub found-is-there : (k : ℕ) (ks : List ℕ) → Rising ks → is_at (find_key k ks) ≡ elem k ks
+pub found-is-there : (k : ℕ) (ks : List ℕ) → Rising ks → is_ok (find_key k ks) ≡ elem k ks
 found-is-there k ks r = go (find_key k ks) refl
   where
-    go : (p : Place) → find_key k ks ≡ p → is_at p ≡ elem k ks
-    go (At i) e = let t = find_at k ks i e in sym (elem_at k ks i t.0 t.1)
-    go (Absent i) e = sym (elem-none k ks (find_absent k ks i r e).1)
+    go : (p : Place) → find_key k ks ≡ p → is_ok p ≡ elem k ks
+    go (Ok i) e = let t = find_at k ks i e in sym (elem_at k ks i t.0 t.1)
+    go (Err i) e = sym (elem-none k ks (find_absent k ks i r e).1)

@@ -32,7 +32,7 @@ use Rattle.block.specs.Tables.{rows_of}
 use Rattle.block.specs.Valid.{name_ok, vlan_ok, valid, legal}
 use Rattle.block.specs.declared.tables.Table.{Table}
 use Rattle.block.specs.declared.tables.Table.TheVariants.{Vlan as vlan}
-use Rattle.block.specs.declared.rows.Place.TheVariants.{At, Absent}
+use Rattle.std.specs.Prelude.{Ok, Err}
 use Rattle.block.proofs.ValidParts.{valid-parts}
 use Rattle.block.proofs.RoundLaws.{legal-valid}
 use Rattle.block.proofs.FindLaws.{find_at, find-lookup, find_absent}
@@ -40,7 +40,7 @@ use Rattle.block.proofs.KeepLaws.{HasCell, rows_ok-lookup, cell-place, cells-in}
 use Rattle.answer.specs.Values.{keys_in, keys_on, or_else, cell_at}
 use Rattle.answer.specs.Get.{elem}
 use Rattle.answer.proofs.GetLaws.{keys-can, keys-small, rows-rise}
-use Rattle.values.specs.Held.{is_fixed}
+use Rattle.values.specs.Standing.{is_fixed}
 use Rattle.values.proofs.ValueLaws.{priority-high}
 
 -- a key that exists stands at some place
@@ -53,12 +53,6 @@ elem-place (q ∷ ks) k e = go (elem-place ks k) (eqb k q) refl e
         → (j : ℕ) × (j < length (q ∷ ks)) × (get_or (q ∷ ks) j 0 ≡ k)
     go f true p r = (0, omega arith, sym (eqb-true k q p))
     go f false p r = let w = f r in (suc w.0, omega (arith, w.1), w.2)
-
--- a key of a growing table that exists is found
-pub not-absent : (c : Content) (t : Table) (k i : ℕ) → valid c ≡ true → elem k (keys_of (rows_of t c)) ≡ true → find_key k (keys_of (rows_of t c)) ≡ Absent i → ⊥
-not-absent c t k i ok e a =
-    let w = elem-place (keys_of (rows_of t c)) k e in
-    (find_absent k (keys_of (rows_of t c)) i (rows-rise c ok t) a).1 w.0 w.2 w.1
 
 -- a key that exists is below its shape's limit
 pub key-small : (c : Content) (s : Shape) (k : ℕ) → valid c ≡ true → elem k (keys_in c s) ≡ true → k < limit s
@@ -75,7 +69,7 @@ on-elem c o k e = by_bool (has c.device o) (λ t. (t, rw t at e)) (λ f. absurd 
 pub elem-on : (c : Content) (o : ObjectType) (k : ℕ) → has c.device o ≡ true → elem k (keys_in c o.shape) ≡ true → elem k (keys_on c o) ≡ true
 elem-on c o k own e = rw own e
 
-module _ {R : Type 0} (k : ℕ) (es : List (ℕ × R)) (i : ℕ) (e : find_key k (keys_of es) ≡ At i) where
+module _ {R : Type 0} (k : ℕ) (es : List (ℕ × R)) (i : ℕ) (e : find_key k (keys_of es) ≡ Ok i) where
   -- a key that is found stands at the place of a row
   pub row-place : i < length es
   row-place = omega (arith, (find_at k (keys_of es) i e).0, length-map es (λ (x : ℕ × R). x.0))
@@ -85,7 +79,7 @@ module _ {R : Type 0} (k : ℕ) (es : List (ℕ × R)) (i : ℕ) (e : find_key k
   row-found d = ap (or_else d.1) (find-lookup k es i d e)
 
 -- the name of a VLAN row that is found
-pub name-found : (c : Content) (k i : ℕ) → valid c ≡ true → find_key k (keys_of c.vlans) ≡ At i
+pub name-found : (c : Content) (k i : ℕ) → valid c ≡ true → find_key k (keys_of c.vlans) ≡ Ok i
     → name_ok (get_or c.vlans i no_vlan).1.len (get_or c.vlans i no_vlan).1.name ≡ true
 unfolding vlan_ok
 name-found c k i ok e =

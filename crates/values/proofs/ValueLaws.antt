@@ -29,7 +29,7 @@ use Rattle.answer.specs.Tables.{first_column}
 use Rattle.answer.specs.Values.{Value, vlan_of, static_of, values, value_of}
 use Rattle.answer.specs.Get.{elem}
 use Rattle.answer.specs.Judge.{tag_of}
-use Rattle.values.specs.Held.{is_fixed}
+use Rattle.values.specs.Standing.{is_fixed}
 
 up_at : {A : Type 0} (f : ℕ → A) (d : A) (a n i : ℕ) → i < n → get_or (map f (up_from a n)) i d ≡ f (a + i)
 unfolding up_from
@@ -122,7 +122,7 @@ module _ (i : ℕ) (h : i < object_count) where
   priority-high e = leb-true (object_at i).high 255 (shape-rule PortPriority e)
 
 -- which syntax an object has, as tests
-abbrev is_number : Syntax → Bool
+abbrev pub is_number : Syntax → Bool
 is_number Integer = true
 is_number Text = false
 is_number Unsigned = true

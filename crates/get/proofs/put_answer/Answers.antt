@@ -3,7 +3,6 @@ use mathlib.Core.Path.{sym, ◌∙◌}
 use mathlib.Core.List.{List}
 use Prim.Native.Nat.{◌+◌, ◌≤◌, ◌<◌}
 use native.Mathlib.Omega.{arith}
-use lib.ListN.{take}
 use borrow.Author.Tests.{leb-true, leb-false}
 use Rattle.block.specs.Image.{content_of}
 use Rattle.message.specs.Answer.{Bound, bindings_size, most_octets}
@@ -24,7 +23,7 @@ returns-then-fits c =
     let m = c.measured-total in
     let n : m.result ≤ most_octets =
     leb-true _ _ (sym c.fits.ensures ∙ c.if-fits.true) in
-    let bs : List Bound = replied_all a.request.now (content_of a.block.now) a.kind (take a.count a.bindings) in
+    let bs : List Bound = replied_all a.request.now (content_of a.block.now) a.kind a.bindings.now in
     let p = answer-put a.room.now a.id bs (omega (arith, m.ensures)) c.requires.2 in (
       ◌∙◌ {b = 16 + bindings_size bs} m.ensures p.0,
       rw (c.put_replies.ensures, c.put_head.ensures) p.1,
@@ -36,6 +35,6 @@ returns c =
     let m = c.measured-total in
     let n : most_octets < m.result =
     leb-false _ _ (sym c.fits.ensures ∙ c.if-fits.false) in
-    let bs : List Bound = replied_all a.request.now (content_of a.block.now) a.kind (take a.count a.bindings) in
+    let bs : List Bound = replied_all a.request.now (content_of a.block.now) a.kind a.bindings.now in
     let p = answer-short a.room.now a.id bs (omega (arith, m.ensures)) in
     (p.0, c.put_head-2.ensures ∙ p.1)

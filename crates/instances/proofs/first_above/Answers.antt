@@ -1,47 +1,46 @@
--- `instances::first_above` meets its contract: by the shape of the row. Assumes nothing.
-use mathlib.Core.Path.{ap}
+-- `instances::first_above` meets its contract: by the keys of the shape; of a table, the first key above is the first that is at least the least key above. Assumes nothing.
+use mathlib.Core.Path.{◌≡◌, sym, subst, ◌∙◌}
 use native.Mathlib.Omega.{arith}
+use Rattle.names.specs.SubIds.{subids}
+use Rattle.names.specs.Index.{up_from, bases, least, first_above, first_from}
+use Rattle.names.specs.declared.Shape.{Shape}
 use Rattle.block.specs.Image.{content_of}
+use Rattle.block.specs.Lookup.{keys_of}
+use Rattle.block.specs.Tables.{rows_of}
 use Rattle.block.proofs.RoundLaws.{legal-sized}
 use Rattle.answer.specs.Values.{keys_in}
-use Rattle.instances.proofs.SearchLaws.{legal-ports, limit-room}
+use Rattle.instances.specs.Places.{keys_for}
+use Rattle.instances.specs.declared.Keys.TheVariants.{Standing, Growing}
+use Rattle.instances.proofs.SearchLaws.{legal-ports, limit-room, rows-ascend, first-row-from, keys-there, standing-few, growing-shape}
 use Rattle.instances.proofs.first_above.Goals as goal
 
-pub ports-n-requires : goal.ports-n-requires
-ports-n-requires c = (legal-sized _ c.requires).long
+pub ports-requires : goal.ports-requires
+ports-requires c = (legal-sized _ c.requires).long
 
 pub next_in_row-requires : goal.next_in_row-requires
 next_in_row-requires c =
-    omega (arith, limit-room c.args.shape, c.ports-n.ensures, (legal-ports _ c.requires).1)
+    let x = c.in-Standing in
+    let e : Standing x.first x.count ≡ keys_for c.args.shape (content_of c.args.block.now).ports = sym x.is ∙ rw (← c.ports.ensures) c.keys_for.ensures in
+    omega (arith, limit-room c.args.shape, standing-few c.args.shape _ x.first x.count (legal-ports _ c.requires).1 e)
 
-pub next_in_row-requires-in-Port : goal.next_in_row-requires-in-Port
-next_in_row-requires-in-Port c =
-    omega (arith, limit-room c.args.shape, c.ports-n.ensures, (legal-ports _ c.requires).1)
+pub first_key_from-requires : goal.first_key_from-requires
+first_key_from-requires c = (legal-sized _ c.requires, rows-ascend _ c.requires c.in-Growing.t)
 
-pub next_in_row-requires-in-PortPriority : goal.next_in_row-requires-in-PortPriority
-next_in_row-requires-in-PortPriority c =
-    omega (arith, limit-room c.args.shape, c.ports-n.ensures, (legal-ports _ c.requires).1)
+pub returns-in-Standing : goal.returns-in-Standing
+returns-in-Standing c =
+    let x = c.in-Standing in
+    let e : Standing x.first x.count ≡ keys_for c.args.shape (content_of c.args.block.now).ports = sym x.is ∙ rw (← c.ports.ensures) c.keys_for.ensures in
+    let k : up_from x.first x.count ≡ keys_in (content_of c.args.block.now) c.args.shape = keys-there (content_of c.args.block.now) c.args.shape _ e in
+    rw (← k) c.next_in_row.ensures
 
-pub returns-in-Scalar : goal.returns-in-Scalar
-returns-in-Scalar c =
-    let b = c.args.block.now in
-    rw (ap (keys_in (content_of b)) c.in-Scalar.is) c.next_in_row.ensures
-
-pub returns-in-Port : goal.returns-in-Port
-returns-in-Port c =
-    let b = c.args.block.now in
-    rw (ap (keys_in (content_of b)) c.in-Port.is, ← c.ports-n.ensures) c.next_in_row-in-Port.ensures
-
-pub returns-in-PortPriority : goal.returns-in-PortPriority
-returns-in-PortPriority c =
-    let b = c.args.block.now in
-    rw (ap (keys_in (content_of b)) c.in-PortPriority.is, ← c.ports-n.ensures) c.next_in_row-in-PortPriority.ensures
-
-pub returns-in-Vlan : goal.returns-in-Vlan
-returns-in-Vlan c = rw c.in-Vlan.is c.first_row.ensures
-
-pub returns-in-Static : goal.returns-in-Static
-returns-in-Static c = rw c.in-Static.is c.first_row-in-Static.ensures
-
-pub returns-in-Pair : goal.returns-in-Pair
-returns-in-Pair c = rw c.in-Pair.is c.first_row-in-Pair.ensures
+pub returns-in-Growing : goal.returns-in-Growing
+returns-in-Growing c =
+    let x = c.in-Growing in
+    let content = content_of c.args.block.now in
+    let rest = subids c.args.rest.now in
+    let e : Growing x.t ≡ keys_for c.args.shape content.ports = sym x.is ∙ rw (← c.ports.ensures) c.keys_for.ensures in
+    let ks = keys_of (rows_of x.t content) in
+    let k : ks ≡ keys_in content c.args.shape = keys-there content c.args.shape _ e in
+    let f : first_above rest c.args.shape ks ≡ first_from (least (bases c.args.shape) rest) ks =
+    subst (λ (s : Shape). first_above rest s ks ≡ first_from (least (bases s) rest) ks) (growing-shape c.args.shape _ x.t e) (first-row-from c.args.block.now c.requires x.t rest) in
+    rw (← k, f, ← c.least_above.ensures) c.first_key_from.ensures

@@ -37,17 +37,17 @@ fits : (s : List ℕ) (o : ObjectType) → o.len ≤ length o.prefix → Prefix 
 fits s o h e = under-fits s o.prefix o.len h (sym e)
 
 pub slice_bounds-first_above-count-in-Prefix : goal.slice_bounds-first_above-count-in-Prefix
-slice_bounds-first_above-count-in-Prefix c = fits _ c.args.o c.requires.2 (sym c.in-Prefix.is ∙ c.type_side-side.ensures)
+slice_bounds-first_above-count-in-Prefix c = fits _ c.args.o c.requires.2 (sym c.in-Prefix.is ∙ c.type_side.ensures)
 
 pub slice_bounds-first_above-start-in-Prefix : goal.slice_bounds-first_above-start-in-Prefix
-slice_bounds-first_above-start-in-Prefix c = fits _ c.args.o c.requires.2 (sym c.in-Prefix.is ∙ c.type_side-side.ensures)
+slice_bounds-first_above-start-in-Prefix c = fits _ c.args.o c.requires.2 (sym c.in-Prefix.is ∙ c.type_side.ensures)
 
 pub returns-in-Below : goal.returns-in-Below
 returns-in-Below c =
     let s = c.args.rest.now in
     let o = c.args.o in
     let ks = keys_in (content_of c.args.block.now) o.shape in
-    let side = sym c.type_side-side.ensures ∙ c.in-Below.is in
+    let side = sym c.type_side.ensures ∙ c.in-Below.is in
     let own : has (content_of c.args.block.now).device c.args.o ≡ true =
     sym (c.has_object.ensures ∙ ap (λ (m : Model). has m.device c.args.o) c.model-m.ensures) ∙ c.if-not-has_object.false in
     rw own
@@ -58,7 +58,7 @@ returns-in-Prefix c =
     let s = c.args.rest.now in
     let o = c.args.o in
     let ks = keys_in (content_of c.args.block.now) o.shape in
-    let side = sym c.type_side-side.ensures ∙ c.in-Prefix.is in
+    let side = sym c.type_side.ensures ∙ c.in-Prefix.is in
     let own : has (content_of c.args.block.now).device c.args.o ≡ true =
     sym (c.has_object.ensures ∙ ap (λ (m : Model). has m.device c.args.o) c.model-m.ensures) ∙ c.if-not-has_object.false in
     rw own
@@ -72,4 +72,4 @@ returns-in-Above c =
     sym (c.has_object.ensures ∙ ap (λ (m : Model). has m.device c.args.o) c.model-m.ensures) ∙ c.if-not-has_object.false in
     rw own
     (sym (ap answered (key_above (subids a.rest.now) a.o (keys_in (content_of a.block.now) a.o.shape)
-    (sym c.type_side-side.ensures ∙ c.in-Above.is))))
+    (sym c.type_side.ensures ∙ c.in-Above.is))))

@@ -4,7 +4,7 @@ use Rattle.block.specs.Image.{content_of}
 use Rattle.block.specs.Lookup.{keys_of}
 use Rattle.block.specs.Tables.{rows_of}
 use Rattle.block.proofs.RoundLaws.{legal-sized}
-use Rattle.instances.specs.Places.{is_at}
+use Rattle.std.specs.Prelude.{is_ok}
 use Rattle.instances.proofs.SearchLaws.{rows-rising, rows-ascend, found-is-there}
 use Rattle.instances.proofs.has_row.Goals as goal
 
@@ -15,4 +15,4 @@ find_row-requires c =
 pub returns : goal.returns
 returns c =
     let b = c.args.block.now in
-    c.is_at.ensures ∙ ap is_at c.find_row.ensures ∙ found-is-there c.args.key (keys_of (rows_of c.args.t (content_of b))) (rows-rising b c.requires c.args.t)
+    c.is_ok.ensures.value ∙ ap is_ok c.find_row.ensures ∙ found-is-there c.args.key (keys_of (rows_of c.args.t (content_of b))) (rows-rising b c.requires c.args.t)

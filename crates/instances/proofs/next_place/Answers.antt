@@ -19,7 +19,7 @@ use Rattle.instances.proofs.next_place.Goals as goal
 fits : (c : goal.In-Prefix) → 28 ≤ length c.args.name.now
 fits c =
     under-fits c.args.name.now root 7 (omega arith)
-    (sym c.root_side-side.ensures ∙ c.in-Prefix.is)
+    (sym c.root_side.ensures ∙ c.in-Prefix.is)
 
 pub slice_bounds-next_under_root-count-in-Prefix : goal.slice_bounds-next_under_root-count-in-Prefix
 slice_bounds-next_under_root-count-in-Prefix c = fits c
@@ -32,7 +32,7 @@ returns-in-Below c =
     let a = c.args in
     let s = a.name.now in
     let keys = keys_on (content_of a.block.now) in
-    let side = sym c.root_side-side.ensures ∙ c.in-Below.is in
+    let side = sym c.root_side.ensures ∙ c.in-Below.is in
     c.next_under_root.ensures
     ∙ ap (λ r. next_of (next_place keys (root ++ r))) (rest-none s)
     ∙ sym (ap next_of (root_below keys (subids s) side))
@@ -42,7 +42,7 @@ returns-in-Prefix c =
     let a = c.args in
     let s = a.name.now in
     let keys = keys_on (content_of a.block.now) in
-    let side = sym c.root_side-side.ensures ∙ c.in-Prefix.is in
+    let side = sym c.root_side.ensures ∙ c.in-Prefix.is in
     c.next_under_root-in-Prefix.ensures
     ∙ ap (λ r. next_of (next_place keys (root ++ r))) (rest-past s 7)
     ∙ sym (ap next_of (root-under keys (subids s) side))
@@ -51,4 +51,4 @@ pub returns-in-Above : goal.returns-in-Above
 returns-in-Above c =
     let a = c.args in
     sym (ap next_of (root-above (keys_on (content_of a.block.now)) (subids a.name.now)
-    (sym c.root_side-side.ensures ∙ c.in-Above.is)))
+    (sym c.root_side.ensures ∙ c.in-Above.is)))

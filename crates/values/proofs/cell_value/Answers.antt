@@ -32,24 +32,24 @@ of-priority i (inr e) = rw e
 
 pub priority_map-requires : goal.priority_map-requires
 priority_map-requires c =
-    ((legal-valid c.args.block.now c.requires.0).2, c.requires.1, map-there c.args.i (which c.args.i c.if-i.true))
+    ((legal-valid c.args.block.now c.requires.0).2, c.requires.1.0, map-there c.args.x.place (which c.args.x.place c.if-x.true))
 
 pub in_map-requires : goal.in_map-requires
 in_map-requires c =
-    priority-key (present-in c.args.block.now c.args.i c.args.key c.requires.0 c.requires.1 c.requires.2) c.requires.3 c.args.i refl (of-priority c.args.i (which c.args.i c.if-i.true))
+    priority-key (present-in c.args.block.now c.args.x.place c.args.x.key c.requires.0 c.requires.1.0 c.requires.1.1) c.requires.2 c.args.x.place refl (of-priority c.args.x.place (which c.args.x.place c.if-x.true))
 
-pub returns-then-i : goal.returns-then-i
-returns-then-i c =
+pub returns-then-x : goal.returns-then-x
+returns-then-x c =
     c.in_map.ensures ∙ rw c.priority_map.ensures
-    (priority-cell (present-in c.args.block.now c.args.i c.args.key c.requires.0 c.requires.1 c.requires.2) c.requires.3 c.args.i refl (of-priority c.args.i (which c.args.i c.if-i.true)))
+    (priority-cell (present-in c.args.block.now c.args.x.place c.args.x.key c.requires.0 c.requires.1.0 c.requires.1.1) c.requires.2 c.args.x.place refl (of-priority c.args.x.place (which c.args.x.place c.if-x.true)))
 
 pub cell_of-requires : goal.cell_of-requires
 cell_of-requires c =
-    (c.requires.1, omega (arith, cell-key (present-in c.args.block.now c.args.i c.args.key c.requires.0 c.requires.1 c.requires.2) c.requires.3))
+    (c.requires.1.0, omega (arith, cell-key (present-in c.args.block.now c.args.x.place c.args.x.key c.requires.0 c.requires.1.0 c.requires.1.1) c.requires.2))
 
 pub cell-requires : goal.cell-requires
 cell-requires c =
-    ((legal-valid c.args.block.now c.requires.0).2, rw c.cell_of.ensures (cell-there (present-in c.args.block.now c.args.i c.args.key c.requires.0 c.requires.1 c.requires.2) c.requires.3))
+    ((legal-valid c.args.block.now c.requires.0).2, rw c.cell_of.ensures (cell-there (present-in c.args.block.now c.args.x.place c.args.x.key c.requires.0 c.requires.1.0 c.requires.1.1) c.requires.2))
 
 pub returns : goal.returns
 returns c = c.cell.ensures ∙ rw c.cell_of.ensures

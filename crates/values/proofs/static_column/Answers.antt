@@ -9,7 +9,7 @@ pub returns-in-19 : goal.returns-in-19
 unfolding values
 returns-in-19 c d p r =
     let e : c.args.i ≡ static_address = omega arith in
-    c.six_octets.ensures ∙ rw e
+    c.written.ensures ∙ rw e
 
 pub returns-in-20 : goal.returns-in-20
 unfolding values
