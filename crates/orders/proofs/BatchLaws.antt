@@ -7,6 +7,7 @@ use mathlib.Core.List.{List, [], ◌∷◌, ◌++◌, map, append_assoc, Permᴰ
 use lib.Dec.{ltb}
 use lib.ListN.{length, take, drop, get_or, set, length-append, length-drop, length-set, take-append-drop, get_or-map}
 use lib.Seq.{length-take-le, take-length, take_at, drop_at, take-append-le, drop-append-le, drop-append-add, drop-drop, get_or-append_seam, get_or-set_same, get_or-set_other, get_or-take}
+use Rattle.std.proofs.lemmas.List.{length-take}
 use borrow.Author.Tests.{ltb-true, ltb-false}
 use Rattle.octets.specs.Parts.{part}
 use Rattle.octets.proofs.BoolLaws.{by-eq, by_bool}
@@ -93,30 +94,25 @@ past [] i h = refl
 past (x ∷ l) zero h = absurd (omega arith)
 past (x ∷ l) (suc i) h = past l i (omega arith)
 
-taken-few : (n : ℕ) (l : List Span) → length (take n l) ≤ n
-taken-few zero l = omega arith
-taken-few (suc n) [] = omega arith
-taken-few (suc n) (x ∷ l) = let t : length (take n l) ≤ n = taken-few n l in omega arith
+module _ (spans : List Span) where
+  pub number-zero : (i : ℕ) → i ≡ 0 → no_span ≡ get_or (no_span ∷ spans) i no_span
+  number-zero i e = ap (λ (j : ℕ). get_or (no_span ∷ spans) j no_span) (sym e)
 
-module _ (spans : List Span) (count : ℕ) where
-  pub number-zero : (i : ℕ) → i ≡ 0 → no_span ≡ get_or (no_span ∷ take count spans) i no_span
-  number-zero i e = ap (λ (j : ℕ). get_or (no_span ∷ take count spans) j no_span) (sym e)
-
-  pub number_past : (i : ℕ) → count < i → no_span ≡ get_or (no_span ∷ take count spans) i no_span
+  pub number_past : (i : ℕ) → length spans < i → no_span ≡ get_or (no_span ∷ spans) i no_span
   number_past zero h = absurd (omega arith)
-  number_past (suc i) h = sym (past (take count spans) i (omega (arith, taken-few count spans)))
+  number_past (suc i) h = sym (past spans i (omega arith))
 
-  pub number-found : (i : ℕ) → (i ≡ 0 → ⊥) → i ≤ count → get_or spans (i - 1) no_span ≡ get_or (no_span ∷ take count spans) i no_span
-  number-found zero z h = absurd (z refl)
-  number-found (suc i) z h =
+  pub number-found : (i : ℕ) → (i ≡ 0 → ⊥) → get_or spans (i - 1) no_span ≡ get_or (no_span ∷ spans) i no_span
+  number-found zero z = absurd (z refl)
+  number-found (suc i) z =
       let e : suc i - 1 ≡ i = omega arith in
-      ap (λ (j : ℕ). get_or spans j no_span) e ∙ sym (get_or-take count spans i no_span (omega arith))
+      ap (λ (j : ℕ). get_or spans j no_span) e
 
 pub numbered_within : (b : List ℕ) (spans : List Span) (count i : ℕ) → AllWithin b spans count → Within b (get_or (no_span ∷ take count spans) i no_span)
 numbered_within b spans count zero w = (omega arith, omega arith)
 numbered_within b spans count (suc i) w =
     by_bool (ltb i count) (λ q. subst (Within b) (sym (get_or-take count spans i no_span (ltb-true i count q))) (w i (ltb-true i count q)))
-    (λ q. subst (Within b) (sym (past (take count spans) i (omega (arith, ltb-false i count q, taken-few count spans)))) (omega arith, omega arith))
+    (λ q. subst (Within b) (sym (past (take count spans) i (omega (arith, ltb-false i count q, length-take count spans)))) (omega arith, omega arith))
 
 -- the turns of an order
 module _ (ms : List (List ℕ)) (rooms : List ℕ) where

@@ -1,5 +1,5 @@
 // A batch played in an order, and in two orders beside what the checker says of it.
-ghost use Rattle.std.specs.Prelude.{◌≡◌, ◌∷◌, ◌≤◌, ◌<◌, length, take, get_or};
+ghost use Rattle.std.specs.Prelude.{◌≡◌, ◌∷◌, ◌≤◌, ◌<◌, length, get_or};
 ghost use Rattle.console.specs.Batch.{most_frames, octets_at, no_span, Within};
 ghost use Rattle.orders.specs.Batches.{all_rooms, Turned, PlayedInOrder, TwoOrders};
 
@@ -26,14 +26,13 @@ const NO_RESULT: RbResult = RbResult {
 };
 
 // Where the message with a number stands, from 1; no octets for another number.
-fn message_numbered(spans: [Span; 64], count: usize, number: usize) -> Span
-    requires { count ≤ most_frames }
-    ensures { result ≡ get_or (no_span ∷ take count spans) number no_span }
+fn message_numbered(spans: &[Span], number: usize) -> Span
+    ensures { result ≡ get_or (no_span ∷ spans.now) number no_span }
 {
     if number == 0 {
         return NO_SPAN;
     }
-    if count < number {
+    if spans.len() < number {
         return NO_SPAN;
     }
     spans[number - 1]
@@ -57,14 +56,12 @@ pub fn play_batch(block: &mut [u8], batch: &[u8], order: &[u8], rooms: &mut [u8]
     ensures { PlayedInOrder block.old batch.now order.now rooms.old result rooms.new block.new }
 {
     let frames = frames_of(batch);
-    let spans = frames.spans;
-    let count = frames.count;
+    let all = &frames.spans;
+    let spans = &all[..frames.count];
     let mut results = [NO_RESULT; 64];
-    let mut k: usize = 0;
-    while k < order.len() {
-        let s = message_numbered(spans, count, order[k] as usize);
+    for (k, number) in order.iter().enumerate() {
+        let s = message_numbered(spans, *number as usize);
         results[k] = play_turn(block, batch, s, rooms, k);
-        k += 1;
     }
     results
 }

@@ -33,10 +33,5 @@ pub fn both_orders(
     let b2 = rb_answer(one, b, r2);
     let b1 = rb_answer(other, b, r3);
     let a2 = rb_answer(other, a, r4);
-    FourCalls {
-        a1: a1,
-        b2: b2,
-        b1: b1,
-        a2: a2,
-    }
+    FourCalls { a1, b2, b1, a2 }
 }

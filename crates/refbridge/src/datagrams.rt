@@ -26,10 +26,16 @@ pub fn rb_from_captured(datagram: &[u8], room: &mut [u8]) -> RbDatagram
 pub fn rb_to_datagram(message: &[u8], community: &[u8], room: &mut [u8]) -> RbResult
     ensures { sent_by result room.new ≡ to_datagram room.old community.now message.now }
 {
-    let written = to_datagram(message, community, room);
-    RbResult {
-        number: written.number,
-        count: written.count,
-        offset: written.offset,
+    match to_datagram(message, community, room) {
+        Ok(count) => RbResult {
+            number: 0,
+            count: count as u32,
+            offset: 0,
+        },
+        Err(r) => RbResult {
+            number: u32::from(r.reason),
+            count: 0,
+            offset: r.at as u32,
+        },
     }
 }

@@ -16,5 +16,8 @@ pub fn rb_console_take(state: &mut [u8], chunk: &[u8], room: &mut [u8]) -> RbCon
 pub fn rb_console_reset(state: &mut [u8]) -> RbResult
     ensures { ((result.number, state.new) ≡ resetting state.old) × (result.count ≡ 0) × (result.offset ≡ 0) }
 {
-    numbered(reset(state))
+    match reset(state) {
+        Ok(()) => numbered(0),
+        Err(refused) => numbered(u32::from(refused)),
+    }
 }

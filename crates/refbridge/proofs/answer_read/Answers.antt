@@ -12,15 +12,15 @@ set_block-verdict-requires c = (c.requires.0, c.requires.2.sets c.if-kind-eq-SET
 pub returns-then-kind-eq-SET : goal.returns-then-kind-eq-SET
 returns-then-kind-eq-SET c =
     let e = c.set_block-verdict.ensures in
-    set-answer c.args.block.now c.args.room.now c.requires.2 c.if-kind-eq-SET.true e.0 e.1 e.2 c.put_echo.ensures
+    rw c.counted.ensures (set-answer c.args.block.now c.args.room.now c.requires.2 c.if-kind-eq-SET.true e.0 e.1 c.put_verdict.ensures)
 
-pub overflow_cast-result-2 : goal.overflow_cast-result-2
-overflow_cast-result-2 c =
-    let d = c.put_answer-octets in
+pub overflow_cast-put_answer : goal.overflow_cast-put_answer
+overflow_cast-put_answer c =
+    let d = c.put_answer in
     let h : d.result ≤ most_octets = rw d.ensures.0 (answer-fits _ _) in
     omega arith
 
 pub returns : goal.returns
 returns c =
-    let e = c.put_answer-octets.ensures in
-    get-answer c.args.block.now c.args.room.now c.requires.2 c.if-kind-eq-SET.false e.0 e.1
+    let e = c.put_answer.ensures in
+    rw c.counted-2.ensures (get-answer c.args.block.now c.args.room.now c.requires.2 c.if-kind-eq-SET.false e.0 e.1)

@@ -9,18 +9,18 @@ use Rattle.refbridge.proofs.rb_answer.Goals as goal
 pub returns-then-room-lt-MOST_OCTETS : goal.returns-then-room-lt-MOST_OCTETS
 returns-then-room-lt-MOST_OCTETS c =
     let a = c.args in
-    rw c.numbered.ensures (room-short a.block.now a.request.now a.room.now (omega arith))
+    rw c.refused.ensures (room-short a.block.now a.request.now a.room.now (omega arith))
 
 pub returns-then-request-gt-MOST_OCTETS : goal.returns-then-request-gt-MOST_OCTETS
 returns-then-request-gt-MOST_OCTETS c =
     let a = c.args in
-    rw c.numbered-then-request-gt-MOST_OCTETS.ensures (request-long a.block.now a.request.now a.room.now (omega arith) (omega arith))
+    rw c.refused-then-request-gt-MOST_OCTETS.ensures (request-long a.block.now a.request.now a.room.now (omega arith) (omega arith))
 
 pub returns-then-not-is_legal : goal.returns-then-not-is_legal
 returns-then-not-is_legal c =
     let a = c.args in
     let l : legal a.block.now ≡ false = sym c.is_legal.ensures ∙ c.if-not-is_legal.true in
-    rw c.numbered-then-not-is_legal.ensures (not-legal a.block.now a.request.now a.room.now (omega arith) (omega arith) l)
+    rw c.refused-then-not-is_legal.ensures (not-legal a.block.now a.request.now a.room.now (omega arith) (omega arith) l)
 
 pub answer_legal-requires : goal.answer_legal-requires
 answer_legal-requires c = (sym c.is_legal.ensures ∙ c.if-not-is_legal.false, omega arith, omega arith)

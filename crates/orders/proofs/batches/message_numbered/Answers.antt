@@ -3,10 +3,10 @@ use Rattle.orders.proofs.BatchLaws.{number-zero, number_past, number-found}
 use Rattle.orders.proofs.batches.message_numbered.Goals as goal
 
 pub returns-then-number-eq0 : goal.returns-then-number-eq0
-returns-then-number-eq0 c = number-zero c.args.spans c.args.count c.args.number c.if-number-eq0.true
+returns-then-number-eq0 c = number-zero c.args.spans.now c.args.number c.if-number-eq0.true
 
-pub returns-then-count-number : goal.returns-then-count-number
-returns-then-count-number c = number_past c.args.spans c.args.count c.args.number c.if-count-number.true
+pub returns-then-spans-number : goal.returns-then-spans-number
+returns-then-spans-number c = number_past c.args.spans.now c.args.number c.if-spans-number.true
 
 pub returns : goal.returns
-returns c = number-found c.args.spans c.args.count c.args.number c.if-number-eq0.false c.if-count-number.false
+returns c = number-found c.args.spans.now c.args.number c.if-number-eq0.false

@@ -14,12 +14,6 @@ loop-k-init c =
     let a = c.args in
     (sofar-none a.block.now a.batch.now a.order.now a.rooms.now _ c.requires.1 refl, refl)
 
-pub overflow_cast-order : goal.overflow_cast-order
-overflow_cast-order c = omega (arith, c.type_inv.order c.loop-k.k)
-
-pub message_numbered-s-requires : goal.message_numbered-s-requires
-message_numbered-s-requires c = c.frames_of-frames.ensures.1
-
 pub play_turn-requires : goal.play_turn-requires
 play_turn-requires c =
     let a = c.args in
@@ -30,15 +24,6 @@ play_turn-requires c =
       omega (arith, c.requires.0),
       c.loop-k.invariant.0.long,
     )
-
-pub offset_bounds-results-k : goal.offset_bounds-results-k
-offset_bounds-results-k c = omega (arith, c.requires.0)
-
-pub bounds-results-k : goal.bounds-results-k
-bounds-results-k c = omega (arith, c.requires.0)
-
-pub overflow_add-k : goal.overflow_add-k
-overflow_add-k c = omega (arith, c.requires.0)
 
 pub loop-k-preserved : goal.loop-k-preserved
 loop-k-preserved c =
@@ -61,4 +46,4 @@ pub shape_of-rooms : goal.shape_of-rooms
 shape_of-rooms c = omega (arith, c.loop-k.invariant.0.long, c.requires.1)
 
 pub returns : goal.returns
-returns c = sofar-all c.args.block.now c.args.batch.now c.args.order.now c.args.rooms.now c.loop-k.invariant.0 c.loop-k-test.false
+returns c = sofar-all c.args.block.now c.args.batch.now c.args.order.now c.args.rooms.now c.loop-k.invariant.0 (omega arith)

@@ -9,7 +9,7 @@ returns-then-not-is_legal c =
     let t = c.is_legal in
     let b = c.args.block.now in
     let l : legal b ≡ false = sym t.ensures ∙ c.if-not-is_legal.true in
-    (rw (c.numbered.ensures, l), rw c.numbered.ensures, rw c.numbered.ensures, rw l)
+    (rw (c.refused.ensures, l), rw c.refused.ensures, rw c.refused.ensures, rw l)
 
 pub reset-requires : goal.reset-requires
 reset-requires c = let t = c.is_legal in sym t.ensures ∙ c.if-not-is_legal.false
@@ -20,4 +20,4 @@ returns c =
     let t = d.is_legal in
     let b = d.args.block.now in
     let l : legal b ≡ true = sym t.ensures ∙ d.if-not-is_legal.false in
-    (rw (c.numbered-2.ensures, l), rw c.numbered-2.ensures, rw c.numbered-2.ensures, rw l d.reset.ensures)
+    (rw (c.numbered.ensures, l), rw c.numbered.ensures, rw c.numbered.ensures, rw l d.reset.ensures)

@@ -1,9 +1,0 @@
--- `refbridge::rb_to_hundredths` meets its contract. Assumes nothing.
-use mathlib.Core.Path.{refl}
-use Rattle.refbridge.proofs.rb_to_hundredths.Goals as goal
-
-pub returns-in-Converted : goal.returns-in-Converted
-returns-in-Converted c = (rw (← c.to_hundredths-hundredths.ensures, c.in-Converted.is), refl)
-
-pub returns-in-OutOfRange : goal.returns-in-OutOfRange
-returns-in-OutOfRange c = (rw (c.numbered.ensures, ← c.to_hundredths-hundredths.ensures, c.in-OutOfRange.is), rw c.numbered.ensures)
