@@ -41,7 +41,7 @@ no_span = record { start = 0; len = 0 }
 abbrev pub AllWithin : List ℕ → List Span → ℕ → Type 0
 AllWithin b spans n = (i : ℕ) → i < n → Within b (get_or spans i no_span)
 
--- what stands at index at: a message in its place, or what ends the batch whatever follows
+-- a frame read at index at: the span of its message, or the refusal that ends the batch, whatever comes after
 abbrev pub Means : (b : List ℕ) (at : ℕ) → Result Span StreamRefused → Type 0
 Means b at (Ok s) = (at ≤ s.start) × Within b s × (run (drop at b) (inside fresh) ≡ (s.start + s.len - at, whole (octets_at b s)))
 Means b at (Err e) = (r : List (List ℕ) × ℕ) → led (run (drop at b) (inside fresh)).1 r ≡ ([], number_of e)

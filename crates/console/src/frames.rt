@@ -14,7 +14,7 @@ pub struct Span {
 }
 
 // The first messages of a batch in their places: all of them, or those before the refusal that ends it.
-// Fixed memory: the places stand in an array with their count.
+// Fixed memory: an array holds the spans, and count tells how many of them are used.
 #[derive(Drop)]
 pub struct Frames {
     pub end: Result<(), StreamRefused>,

@@ -30,8 +30,8 @@ pub fn type_side(rest: &[u8], o: ObjectType) -> Side
     stands(rest, &prefix[..o.len])
 }
 
-// The place of the object type that is a prefix of what follows the root in a name, or else the first whose object type does not stand before that: the
-// ascending table is halved.
+// Looks up what follows the root in a name, by halving the ascending table.
+// Ok: the object type that is a prefix of it. Err: the first object type not below it.
 fn search(rest: &[u8]) -> Result<usize, usize>
     ensures found { result_ok result ≡ answered (place_under 0 objects (subids rest.now)) }
     ensures first { MatchResult result (λ i. i ≡ passed_in objects (subids rest.now)) (λ i. i ≡ passed_in objects (subids rest.now)) }

@@ -1,5 +1,5 @@
--- `identifiers::types::search` meets its contract. The invariant: the first place that does not stand before what follows the root is from first to last, and
--- no object type before first, and none from last on, is its prefix. Assumes nothing.
+-- `identifiers::types::search` meets its contract. The invariant: the first object type not below the rest of the name is between first and last,
+-- and no object type outside that range is a prefix of the rest. Assumes nothing.
 use mathlib.Core.Path.{◌≡◌}
 use mathlib.Core.Bool.{false}
 use Prim.Native.Nat.{ℕ, ◌-◌, ◌≤◌, ◌<◌}
