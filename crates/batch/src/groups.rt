@@ -23,7 +23,7 @@ pub struct NamedGroup {
 
 // What each binding of a message names.
 // Fixed memory: an array with its count.
-#[derive(Drop)]
+#[derive(Clone, Copy)]
 pub struct NamedGroups {
     pub count: usize,
     pub all: [Option<NamedGroup>; MOST_BINDINGS],

@@ -5,6 +5,7 @@ use changes::setup::{SetUpRefused, set_up};
 use names::device::{SOURCE_ROUTING, TRANSPARENT};
 use names::model::Model;
 use names::rule::OLD_EDITION;
+use octets::parts::all_zero;
 use std::io;
 
 // The octets of a line that starts at index at.
@@ -18,7 +19,7 @@ fn say_line(rt: &impl Print, at: usize, line: &[u8]) -> io::Result<()> {
 
 fn say_block(rt: &impl Print, block: &[u8]) -> io::Result<()> {
     for (i, line) in block.chunks(16).enumerate() {
-        if line.iter().any(|octet| *octet != 0) {
+        if !all_zero(line, 0, line.len()) {
             say_line(rt, 16 * i, line)?;
         }
     }

@@ -250,6 +250,12 @@ pointwise-same [] (y ∷ ys) = refl
 pointwise-same (x ∷ xs) [] = refl
 pointwise-same (x ∷ xs) (y ∷ ys) = rw (pointwise-same xs ys)
 
+-- a turn of the comparison
+pub same_turn : (xs ys : List ℕ) (i : ℕ) → i < length xs → i < length ys
+    → same (drop i xs) (drop i ys) ≡ (eqb (get_or xs i 0) (get_or ys i 0) && same (drop (i + 1) xs) (drop (i + 1) ys))
+unfolding same
+same_turn xs ys i h k = rw (add-one, drop-cons xs i 0 h, drop-cons ys i 0 k)
+
 -- the last octets are zeros where they are found so
 pub same-last : (b : List ℕ) (p n : ℕ) → p + n ≡ length b → same (zeros n) (drop p b) ≡ zero_run b p n
 unfolding same zeros zero_run

@@ -4,6 +4,7 @@ ghost use Rattle.octets.specs.Parts.{part, patch};
 ghost use Rattle.octets.specs.Ports.{member, ports_to, only_to, disjoint, members, first_differing, set_of, port_octets};
 
 use super::numbers::put;
+use super::parts::copy_in;
 
 pub fn is_member(set: u64, port: u32) -> bool
     ensures { result ≡ member 64 set port }
@@ -63,7 +64,7 @@ pub fn set_at(s: &[u8], at: usize, n: usize) -> u64
     ensures { result ≡ set_of (part s.now at n) }
 {
     let mut octets = [0; 8];
-    octets[..n].copy_from_slice(&s[at..at + n]);
+    copy_in(&mut octets, 0, &s[at..at + n]);
     u64::from_be_bytes(octets)
 }
 

@@ -43,22 +43,20 @@ const RESPONSE_FRONT: usize = 28;
 // The most octets before the community: two headers of 4 octets, and the version.
 const DATAGRAM_FRONT: usize = 11;
 
-// How many octets a binding has as one of BER.
-fn bound_size(s: &[u8], b: &Binding) -> usize
+// How many octets a binding has as one of BER; out is lent to write it.
+fn bound_size(out: &mut [u8; MOST_BOUND], s: &[u8], b: &Binding) -> usize
     requires { Writable s.now b.now }
     ensures { result ≡ length (binding_ber (bound_at s.now b.now)) }
 {
-    let mut out = [0u8; MOST_BOUND];
-    MOST_BOUND - bound_before(&mut out, MOST_BOUND, s, b)
+    MOST_BOUND - bound_before(out, MOST_BOUND, s, b)
 }
 
-// Puts a binding as one of BER, and gives the place after it.
-fn put_bound(room: &mut [u8], to: usize, s: &[u8], b: &Binding) -> usize
+// Puts a binding as one of BER, and gives the place after it; out is lent to write it.
+fn put_bound(room: &mut [u8], to: usize, out: &mut [u8; MOST_BOUND], s: &[u8], b: &Binding) -> usize
     requires { Writable s.now b.now × (to + length (binding_ber (bound_at s.now b.now)) ≤ length room.old) }
     ensures { (result ≡ to + length (binding_ber (bound_at s.now b.now))) × (room.new ≡ patch room.old to (binding_ber (bound_at s.now b.now))) }
 {
-    let mut out = [0u8; MOST_BOUND];
-    let from = bound_before(&mut out, MOST_BOUND, s, b);
+    let from = bound_before(out, MOST_BOUND, s, b);
     copy_in(room, to, &out[from..]);
     to + (MOST_BOUND - from)
 }
@@ -68,9 +66,10 @@ fn bindings_size(s: &[u8], bindings: &[Binding]) -> usize
     requires { Ready s.now bindings.now }
     ensures { result ≡ length (bindings_ber (map (bound_at s.now) bindings.now)) × (result < 16384) }
 {
+    let mut out = [0u8; MOST_BOUND];
     let mut total: usize = 0;
     for b in bindings {
-        total += bound_size(s, b);
+        total += bound_size(&mut out, s, b);
     }
     total
 }
@@ -80,9 +79,10 @@ fn put_bindings(room: &mut [u8], from: usize, s: &[u8], bindings: &[Binding])
     requires { Ready s.now bindings.now × (from + length (bindings_ber (map (bound_at s.now) bindings.now)) ≤ length room.old) }
     ensures { room.new ≡ patch room.old from (bindings_ber (map (bound_at s.now) bindings.now)) }
 {
+    let mut out = [0u8; MOST_BOUND];
     let mut to = from;
     for b in bindings {
-        to = put_bound(room, to, s, b);
+        to = put_bound(room, to, &mut out, s, b);
     }
 }
 

@@ -53,7 +53,7 @@ const NUMBER_SIZE: usize = 4;
 // The most octets of a value, a VLAN's name.
 const MOST_OCTETS: usize = 32;
 
-// A value: its tag and its octets. They stand in a fixed memory, as no crate of the library takes any.
+// A value: its tag and its octets. They stand in a fixed memory, as no crate of the library takes any, with zeros behind them.
 #[derive(Drop)]
 pub struct Value {
     tag: u8,
@@ -62,13 +62,14 @@ pub struct Value {
 }
 
 impl Model for Value {
-    ghost use Rattle.std.specs.Prelude.{ℕ, ◌≤◌, List, take};
+    ghost use Rattle.std.specs.Prelude.{ℕ, ◌≡◌, ◌≤◌, List, take};
+    ghost use Rattle.block.specs.Image.{fit_to};
 
     ghost Value = { ℕ × List ℕ };
 
     ghost view = { λ v. (v.tag, take v.len v.octets) };
 
-    ghost invariant = { λ v. v.len ≤ 32 };
+    ghost invariant = { λ v. (v.len ≤ 32) × (v.octets ≡ fit_to 32 (take v.len v.octets)) };
 }
 
 impl Value {

@@ -62,7 +62,7 @@ pub fn is_status_of(t: Table, q: Kept) -> bool
 }
 
 // Whether it writes another column of the table.
-pub(crate) fn is_attribute_of(t: Table, q: Kept) -> bool
+pub fn is_attribute_of(t: Table, q: Kept) -> bool
     ensures { result ≡ is_attribute_of t q }
 {
     let place = q.place as usize;

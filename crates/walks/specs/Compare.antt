@@ -1,5 +1,5 @@
 -- What the comparison of two walks gives (request E11), refusals included. Assumes nothing.
-use Rattle.std.specs.Prelude.{ℕ, ◌+◌, ◌-◌, ◌*◌, ◌≤◌, ◌≡◌, List, [], ◌∷◌, Bool, true, false, cond, length, leb, ltb, Option, Some, None, Result, Ok, Err}
+use Rattle.std.specs.Prelude.{ℕ, ◌+◌, ◌-◌, ◌*◌, ◌≤◌, ◌≡◌, List, [], ◌∷◌, Bool, true, false, cond, length, eqb, leb, ltb, Option, Some, None, Result, Ok, Err}
 use Rattle.octets.specs.Parts.{patch}
 use Rattle.message.specs.Refusals.{number_of}
 use Rattle.message.specs.declared.form.Refusal.{Refusal}
@@ -93,6 +93,10 @@ compared reference device list =
 abbrev pub side_number : Side → ℕ
 side_number Reference = 1
 side_number Device = 2
+
+-- the side that a number says: 2 the device's, any other the reference's
+abbrev pub side_of : ℕ → Side
+side_of n = cond (eqb n 2) Device Reference
 
 -- the totals with what a turn found
 abbrev pub counted : Totals → Option Found → Totals
