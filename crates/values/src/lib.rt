@@ -53,7 +53,8 @@ const NUMBER_SIZE: usize = 4;
 // The most octets of a value, a VLAN's name.
 const MOST_OCTETS: usize = 32;
 
-// A value: its tag and its octets. They stand in a fixed memory, as no crate of the library takes any, with zeros behind them.
+// A value: a tag and at most 32 octets, which zeros follow. The array has room for the longest value, since the library
+// allocates nothing.
 #[derive(Drop)]
 pub struct Value {
     tag: u8,

@@ -6,11 +6,10 @@ use mathlib.Core.List.{List, ◌∷◌}
 use lib.ListN.{length, drop, get_or}
 use lib.Seq.{drop-cons}
 use Rattle.std.specs.Prelude.{Result, Ok}
-use Rattle.answer.specs.declared.faults.Fault.{Fault}
 use Rattle.verdict.specs.declared.judge.Kept.{Kept}
 
-abbrev pub past_end : Result Kept Fault
+abbrev pub past_end : {E : Type 0} → Result Kept E
 past_end = Ok (record { place = 0; len = 0; at = 0; key = 0; value = 0 })
 
-pub kept_turn : (qs : List (Result Kept Fault)) (i : ℕ) → i < length qs → drop i qs ≡ get_or qs i past_end ∷ drop (i + 1) qs
+pub kept_turn : {E : Type 0} (qs : List (Result Kept E)) (i : ℕ) → i < length qs → drop i qs ≡ get_or qs i past_end ∷ drop (i + 1) qs
 kept_turn qs i h = rw add-one (drop-cons qs i past_end h)

@@ -1,5 +1,5 @@
 -- A binding judged by itself, as the code keeps it, and what it means. Assumes nothing.
-use Rattle.std.specs.Prelude.{ℕ, ◌+◌, ◌%◌, ◌^◌, ◌<◌, ◌≤◌, ◌≡◌, Bool, true, false, cond, not, ◌||◌, ◌&&◌, List, [], ◌∷◌, map, eqb, leb, length, get_or, Option as Maybe, Some, None, Result, Ok, Err}
+use Rattle.std.specs.Prelude.{ℕ, ◌+◌, ◌%◌, ◌^◌, ◌<◌, ◌≤◌, ◌≡◌, Bool, true, false, cond, not, ◌||◌, ◌&&◌, List, [], ◌∷◌, map, eqb, leb, length, get_or, Option as Maybe, Some, None, Result, Ok, Err, IfErr}
 use Rattle.std.proofs.Math.Option.{Option, none, some}
 use Rattle.octets.specs.Parts.{part}
 use Rattle.octets.specs.Ports.{set_of, only_to}
@@ -90,18 +90,34 @@ said_ports m xs = cond (leb (length xs) 8) (cond (only_to 64 m.ports (set_of xs)
 abbrev pub kept_of : (i k v : ℕ) → Binding → Kept
 kept_of i k v b = record { place = i; len = b.len; at = b.content; key = k; value = v }
 
--- what is kept of a binding of a request s as a judged binding; the row that it names is left out, since no fault and no change reads it
+-- what is kept of a binding of a request s as a judged binding, where n numbers the faults; the row that it names is left out, since no fault and no change reads it
+abbrev pub meant_with : {E : Type 0} → (E → ℕ) → List ℕ → Result Kept E → Judged
+meant_with n s (Ok q) = clean (0, 0) (written_as q.place q.key q.value (part s q.at q.len))
+meant_with n s (Err e) = bad (n e) none
+
+-- where they are of the type `Fault`
 abbrev pub meant : List ℕ → Result Kept Fault → Judged
-meant s (Ok q) = clean (0, 0) (written_as q.place q.key q.value (part s q.at q.len))
-meant s (Err f) = bad (number_of f) none
+meant s k = meant_with number_of s k
 
 abbrev pub bare : Judged → Judged
 bare (bad f t) = bad f none
 bare (clean t w) = clean (0, 0) w
 
--- what is kept of the bindings of a request s
+-- what is kept of the bindings of a request s as judged bindings, where n numbers the faults
+abbrev pub meant_by_with : {E : Type 0} → (E → ℕ) → List ℕ → List (Result Kept E) → List Judged
+meant_by_with n s kept = map (meant_with n s) kept
+
+-- where they are of the type `Fault`
 abbrev pub meant_by : List ℕ → List (Result Kept Fault) → List Judged
-meant_by s kept = map (meant s) kept
+meant_by s kept = meant_by_with number_of s kept
+
+-- n gives what is converted from a `Fault` the number of that `Fault`
+abbrev pub KeepsNumbers : {E : Type 0} → (from_gives : Fault → E → Type 0) → (E → ℕ) → Type 0
+KeepsNumbers {E = E} from_gives n = (f : Fault) (e : E) → from_gives f e → n e ≡ number_of f
+
+-- a fault, if there is one, has another number than 0, which says that there is none
+abbrev pub NonZero : {A E : Type 0} → (E → ℕ) → Result A E → Type 0
+NonZero n r = IfErr r (λ e. eqb (n e) 0 ≡ false)
 
 -- the bindings of a request s, judged
 abbrev pub judged_in : Model → List ℕ → List Binding → List Judged
@@ -148,22 +164,22 @@ does Removes t q = is_status_of t q && removes t (status_meant t q.value)
 does Fills t q = is_attribute_of t q
 
 -- whether what is kept of a binding is of a clean one that passes a test
-abbrev pub if_clean : (Kept → Bool) → Result Kept Fault → Bool
+abbrev pub if_clean : {E : Type 0} → (Kept → Bool) → Result Kept E → Bool
 if_clean p (Ok q) = p q
-if_clean p (Err f) = false
+if_clean p (Err e) = false
 
 -- is there a clean binding that does so to the row k of a table
-unfoldable pub is_done : Act → Table → (k : ℕ) → List (Result Kept Fault) → Bool
+unfoldable pub is_done : {E : Type 0} → Act → Table → (k : ℕ) → List (Result Kept E) → Bool
 is_done a t k [] = false
 is_done a t k (q ∷ qs) = if_clean (λ q. eqb k q.key && does a t q) q || is_done a t k qs
 
 -- the rows of a table that clean bindings make and remove, by which keys are there: one number for each
-unfoldable pub made : (t : Table) → (there : ℕ → Bool) → List (Result Kept Fault) → ℕ
+unfoldable pub made : {E : Type 0} → (t : Table) → (there : ℕ → Bool) → List (Result Kept E) → ℕ
 made t there [] = 0
 made t there (q ∷ qs) =
     cond (if_clean (λ q. is_status_of t q && (makes t (status_meant t q.value) && not (there q.key))) q) 1 0 + made t there qs
 
-unfoldable pub removed : (t : Table) → (there : ℕ → Bool) → List (Result Kept Fault) → ℕ
+unfoldable pub removed : {E : Type 0} → (t : Table) → (there : ℕ → Bool) → List (Result Kept E) → ℕ
 removed t there [] = 0
 removed t there (q ∷ qs) =
     cond (if_clean (λ q. is_status_of t q && (removes t (status_meant t q.value) && there q.key)) q) 1 0 + removed t there qs
@@ -186,10 +202,14 @@ sets_of (some r) = Some (record { egress = r.egress; forbidden = r.forbidden })
 abbrev pub attribute_sets : Kept → Sets → Sets
 attribute_sets q x = record { egress = cond (eqb q.place vlan_egress) q.value x.egress; forbidden = cond (eqb q.place vlan_forbidden) q.value x.forbidden }
 
--- status and index of the lowest binding at fault, if one is
-abbrev pub verdict_as : Result Unit Faulted → Verdict
-verdict_as (Ok u) = record { status = 0; index = 0 }
-verdict_as (Err e) = record { status = number_of e.fault; index = e.index }
+-- status and index of the lowest binding at fault, if one is, where n numbers the faults
+abbrev pub verdict_with : {E : Type 0} → (E → ℕ) → Result Unit (Faulted E) → Verdict
+verdict_with n (Ok u) = record { status = 0; index = 0 }
+verdict_with n (Err e) = record { status = n e.fault; index = e.index }
+
+-- where they are of the type `Fault`
+abbrev pub verdict_as : Result Unit (Faulted Fault) → Verdict
+verdict_as r = verdict_with number_of r
 
 -- what the code asks of a write: its numbers have room in the block's octets
 abbrev pub key_room : Table → ℕ
@@ -228,9 +248,9 @@ pub record KeptFit (s : List ℕ) (kept : List (Result Kept Fault)) : Type 0 whe
 
 -- what the code asks before it reads timers from kept bindings: the number of a clean binding that writes a cell has room in four octets, and its place tells
 -- whether the cell is a timer's
-abbrev pub TimerFits : Result Kept Fault → Type 0
+abbrev pub TimerFits : {E : Type 0} → Result Kept E → Type 0
 TimerFits (Ok q) = column_in q.place ≡ None → (q.value < 2 ^ 32) × OwnCell q.place q.key
-TimerFits (Err f) = Unit {0}
+TimerFits (Err e) = Unit {0}
 
-abbrev pub TimersFit : List (Result Kept Fault) → Type 0
-TimersFit kept = (i : ℕ) (d : Result Kept Fault) → i < length kept → TimerFits (get_or kept i d)
+abbrev pub TimersFit : {E : Type 0} → List (Result Kept E) → Type 0
+TimersFit {E = E} kept = (i : ℕ) (d : Result Kept E) → i < length kept → TimerFits (get_or kept i d)

@@ -1,5 +1,5 @@
 // The faults of a message: those of each binding by itself, and 18, 12 and 13, which the rows before and the clean bindings decide.
-ghost use Rattle.std.specs.Prelude.{◌≡◌, ℕ, ◌≤◌, true, not, List, length, Some, Ok};
+ghost use Rattle.std.specs.Prelude.{◌≡◌, ℕ, ◌≤◌, true, not, List, length, eqb, false, Some, Ok, All, MatchResult};
 ghost use Rattle.std.proofs.Math.Option.{Option};
 ghost use Rattle.names.specs.Places.{is_timer};
 ghost use Rattle.octets.specs.Parts.{part};
@@ -16,7 +16,7 @@ ghost use Rattle.block.specs.declared.tables.Table.TheVariants.{Vlan as vlan};
 ghost use Rattle.answer.specs.Faults.{fault_in};
 ghost use Rattle.answer.specs.Tables.{status_step, step, lacking, clash};
 ghost use Rattle.answer.specs.Set.{writes_to, attribute_fault, status_fault, resulting, row_fault, is_full, resulting_cells, cell_fault, fault, verdict};
-ghost use Rattle.verdict.specs.Kept.{is_column, status_meant, column_at, meant, meant_by, does, is_done, full_in, full_of, sets_of, attribute_sets, verdict_as, TimersFit};
+ghost use Rattle.verdict.specs.Kept.{is_column, status_meant, column_at, meant_with, meant_by_with, does, is_done, full_in, full_of, sets_of, attribute_sets, verdict_with, KeepsNumbers, NonZero, TimersFit};
 ghost use Rattle.verdict.specs.declared.faults.Act.TheVariants.{Fills};
 
 use super::columns::{
@@ -70,8 +70,8 @@ impl Full {
 
 // The lowest binding at fault: its fault, and its index from 1 on.
 #[derive(Clone, Copy, Drop)]
-pub struct Faulted {
-    pub fault: Fault,
+pub struct Faulted<E = Fault> {
+    pub fault: E,
     pub index: u8,
 }
 
@@ -87,7 +87,7 @@ fn does_to(act: Act, t: Table, q: Kept) -> bool
 }
 
 // Whether some clean binding does so to a row of a table.
-fn is_done(kept: &[Result<Kept, Fault>], act: Act, t: Table, key: u64) -> bool
+fn is_done<E: Copy>(kept: &[Result<Kept, E>], act: Act, t: Table, key: u64) -> bool
     ensures { result ≡ is_done act t key kept.now }
 {
     for k in kept {
@@ -101,9 +101,9 @@ fn is_done(kept: &[Result<Kept, Fault>], act: Act, t: Table, key: u64) -> bool
 }
 
 // Whether a table would have more rows than there is room for.
-fn is_full(block: &[u8], t: Table, kept: &[Result<Kept, Fault>]) -> bool
+fn is_full<E: Copy>(block: &[u8], t: Table, kept: &[Result<Kept, E>]) -> bool
     requires { (legal block.now ≡ true) × (length kept.now ≤ 16) }
-    ensures { (s : List ℕ) → result ≡ is_full t (content_of block.now) (meant_by s kept.now) }
+    ensures { (n : E → ℕ) (s : List ℕ) → result ≡ is_full t (content_of block.now) (meant_by_with n s kept.now) }
 {
     let at = standing_of(t);
     let mut rows = row_count(block, t);
@@ -158,8 +158,8 @@ fn with_status(sets: Option<Sets>, v: u64) -> Option<Sets>
 }
 
 // After the status columns of a message.
-fn after_statuses(sets: Option<Sets>, kept: &[Result<Kept, Fault>], key: u64) -> Option<Sets>
-    ensures { (m : Model) (s : List ℕ) (o : Option VlanRow) → sets ≡ sets_of o → result ≡ sets_of (play_row (step m vlan) key (those is_status (writes_to vlan (meant_by s kept.now))) o) }
+fn after_statuses<E: Copy>(sets: Option<Sets>, kept: &[Result<Kept, E>], key: u64) -> Option<Sets>
+    ensures { (n : E → ℕ) (m : Model) (s : List ℕ) (o : Option VlanRow) → sets ≡ sets_of o → result ≡ sets_of (play_row (step m vlan) key (those is_status (writes_to vlan (meant_by_with n s kept.now))) o) }
 {
     let mut after = sets;
     for k in kept {
@@ -191,8 +191,8 @@ fn with_attribute(sets: Sets, q: Kept) -> Sets
 }
 
 // After the other columns of a message, of a row that is there.
-fn after_attributes(sets: Sets, kept: &[Result<Kept, Fault>], key: u64) -> Sets
-    ensures { (m : Model) (s : List ℕ) (o : Option VlanRow) → Some sets ≡ sets_of o → Some result ≡ sets_of (play_row (step m vlan) key (those (λ c. not (is_status c)) (writes_to vlan (meant_by s kept.now))) o) }
+fn after_attributes<E: Copy>(sets: Sets, kept: &[Result<Kept, E>], key: u64) -> Sets
+    ensures { (n : E → ℕ) (m : Model) (s : List ℕ) (o : Option VlanRow) → Some sets ≡ sets_of o → Some result ≡ sets_of (play_row (step m vlan) key (those (λ c. not (is_status c)) (writes_to vlan (meant_by_with n s kept.now))) o) }
 {
     let mut after = sets;
     for k in kept {
@@ -206,9 +206,9 @@ fn after_attributes(sets: Sets, kept: &[Result<Kept, Fault>], key: u64) -> Sets
 }
 
 // Whether the resulting row shares a port between Egress and Forbidden.
-fn shares_port(block: &[u8], kept: &[Result<Kept, Fault>], key: u64) -> bool
+fn shares_port<E: Copy>(block: &[u8], kept: &[Result<Kept, E>], key: u64) -> bool
     requires { legal block.now ≡ true }
-    ensures { (m : Model) (s : List ℕ) → result ≡ clash (resulting m vlan (writes_to vlan (meant_by s kept.now)) key (lookup key (content_of block.now).vlans)) }
+    ensures { (n : E → ℕ) (m : Model) (s : List ℕ) → result ≡ clash (resulting m vlan (writes_to vlan (meant_by_with n s kept.now)) key (lookup key (content_of block.now).vlans)) }
 {
     let before = sets_before(block, key);
     let made = after_statuses(before, kept, key);
@@ -234,7 +234,7 @@ fn attribute_fault(there: bool, made: bool, removed: bool, clash: bool) -> Resul
 }
 
 // Whether a number in a table's status column makes an absent row without a column that it needs: the bridge number of a pair (E12).
-fn lacks_column(kept: &[Result<Kept, Fault>], t: Table, key: u64, v: u64, there: bool) -> bool
+fn lacks_column<E: Copy>(kept: &[Result<Kept, E>], t: Table, key: u64, v: u64, there: bool) -> bool
     ensures { result ≡ lacking t (status_meant t v) there (is_done Fills t key kept.now) }
 {
     match t {
@@ -263,15 +263,15 @@ fn status_fault(misplaced: bool, making: bool, there: bool, full: bool) -> Resul
 }
 
 // The fault of a clean binding of a column of a table.
-fn row_fault(
+fn row_fault<E: Copy>(
     block: &[u8],
     t: Table,
-    kept: &[Result<Kept, Fault>],
+    kept: &[Result<Kept, E>],
     full: bool,
     q: Kept,
 ) -> Result<(), Fault>
     requires { legal block.now ≡ true }
-    ensures { (s : List ℕ) → is_column t q.place ≡ true → fault_in result ≡ row_fault (model_of (content_of block.now)) t full (writes_to t (meant_by s kept.now)) q.key (column_at t q.place q.value (part s q.at q.len)) (lookup q.key (rows_of t (content_of block.now))) }
+    ensures { (n : E → ℕ) (s : List ℕ) → is_column t q.place ≡ true → fault_in result ≡ row_fault (model_of (content_of block.now)) t full (writes_to t (meant_by_with n s kept.now)) q.key (column_at t q.place q.value (part s q.at q.len)) (lookup q.key (rows_of t (content_of block.now))) }
 {
     let key = q.key;
     let place = q.place as usize;
@@ -290,9 +290,9 @@ fn row_fault(
 }
 
 // The timer at a place after the clean kept bindings: the number of the kept binding that writes it, or the block's.
-fn resulting_timer(block: &[u8], kept: &[Result<Kept, Fault>], place: usize) -> u32
+fn resulting_timer<E: Copy>(block: &[u8], kept: &[Result<Kept, E>], place: usize) -> u32
     requires { (legal block.now ≡ true) × TimersFit kept.now × (is_timer place ≡ true) }
-    ensures { (s : List ℕ) → result ≡ timer_in (resulting_cells (content_of block.now) (meant_by s kept.now)) place }
+    ensures { (n : E → ℕ) (s : List ℕ) → result ≡ timer_in (resulting_cells (content_of block.now) (meant_by_with n s kept.now)) place }
 {
     let mut value = timer(block, place);
     for k in kept {
@@ -306,9 +306,9 @@ fn resulting_timer(block: &[u8], kept: &[Result<Kept, Fault>], place: usize) -> 
 }
 
 // Whether the three timers belong together after the clean kept bindings.
-fn timers_agree(block: &[u8], kept: &[Result<Kept, Fault>]) -> bool
+fn timers_agree<E: Copy>(block: &[u8], kept: &[Result<Kept, E>]) -> bool
     requires { (legal block.now ≡ true) × TimersFit kept.now }
-    ensures { (s : List ℕ) → result ≡ timers_ok (resulting_cells (content_of block.now) (meant_by s kept.now)) }
+    ensures { (n : E → ℕ) (s : List ℕ) → result ≡ timers_ok (resulting_cells (content_of block.now) (meant_by_with n s kept.now)) }
 {
     let age = resulting_timer(block, kept, BRIDGE_MAX_AGE);
     let hello = resulting_timer(block, kept, BRIDGE_HELLO_TIME);
@@ -317,9 +317,9 @@ fn timers_agree(block: &[u8], kept: &[Result<Kept, Fault>]) -> bool
 }
 
 // The fault of a clean binding of the object at a place that has a cell.
-fn cell_fault(block: &[u8], kept: &[Result<Kept, Fault>], place: usize) -> Result<(), Fault>
+fn cell_fault<E: Copy>(block: &[u8], kept: &[Result<Kept, E>], place: usize) -> Result<(), Fault>
     requires { (legal block.now ≡ true) × TimersFit kept.now }
-    ensures { (s : List ℕ) → fault_in result ≡ cell_fault place (resulting_cells (content_of block.now) (meant_by s kept.now)) }
+    ensures { (n : E → ℕ) (s : List ℕ) → fault_in result ≡ cell_fault place (resulting_cells (content_of block.now) (meant_by_with n s kept.now)) }
 {
     if !is_timer(place) {
         return Ok(());
@@ -331,9 +331,9 @@ fn cell_fault(block: &[u8], kept: &[Result<Kept, Fault>], place: usize) -> Resul
 }
 
 // Which tables would have more rows than there is room for.
-fn full_in(block: &[u8], kept: &[Result<Kept, Fault>]) -> Full
+fn full_in<E: Copy>(block: &[u8], kept: &[Result<Kept, E>]) -> Full
     requires { (legal block.now ≡ true) × (length kept.now ≤ 16) }
-    ensures { (s : List ℕ) → result ≡ full_in (content_of block.now) (meant_by s kept.now) }
+    ensures { (n : E → ℕ) (s : List ℕ) → result ≡ full_in (content_of block.now) (meant_by_with n s kept.now) }
 {
     Full {
         vlans: is_full(block, Table::Vlan, kept),
@@ -342,29 +342,35 @@ fn full_in(block: &[u8], kept: &[Result<Kept, Fault>]) -> Full
     }
 }
 
-// The first fault of a binding, by which tables pass their room.
-fn fault_of(
+// The fault of a binding: the one that is kept of it, unchanged, or the one that the message as a whole gives it, by
+// which tables pass their room.
+fn fault_of<E: Copy + From<Fault>>(
     block: &[u8],
-    kept: &[Result<Kept, Fault>],
+    kept: &[Result<Kept, E>],
     full: Full,
-    k: Result<Kept, Fault>,
-) -> Result<(), Fault>
+    k: Result<Kept, E>,
+) -> Result<(), E>
     requires { (legal block.now ≡ true) × TimersFit kept.now }
-    ensures { (s : List ℕ) → full ≡ full_in (content_of block.now) (meant_by s kept.now) → fault_in result ≡ fault (content_of block.now) (meant_by s kept.now) (meant s k) }
+    ensures { (n : E → ℕ) (s : List ℕ) → KeepsNumbers E.from_gives n → NonZero n k → full ≡ full_in (content_of block.now) (meant_by_with n s kept.now) →
+        (let f = fault (content_of block.now) (meant_by_with n s kept.now) (meant_with n s k) in MatchResult result (λ _. f ≡ 0) (λ e. (n e ≡ f) × (eqb (n e) 0 ≡ false))) }
 {
     let q = k?;
     let place = q.place as usize;
     let holder = column_in(place);
     match holder {
-        Some(t) => row_fault(block, t, kept, full.of(t), q),
-        None => cell_fault(block, kept, place),
+        Some(t) => row_fault(block, t, kept, full.of(t), q)?,
+        None => cell_fault(block, kept, place)?,
     }
+    Ok(())
 }
 
-// The lowest binding at fault, if one is.
-pub fn verdict_of(block: &[u8], kept: &[Result<Kept, Fault>]) -> Result<(), Faulted>
+// The binding at fault with the lowest index, if any. `E` may be any type that a `Fault` converts to, such as an octet.
+pub fn verdict_of<E: Copy + From<Fault>>(
+    block: &[u8],
+    kept: &[Result<Kept, E>],
+) -> Result<(), Faulted<E>>
     requires { (legal block.now ≡ true) × (length kept.now ≤ 16) × TimersFit kept.now }
-    ensures { (s : List ℕ) → verdict_as result ≡ verdict (content_of block.now) (meant_by s kept.now) }
+    ensures { (n : E → ℕ) (s : List ℕ) → KeepsNumbers E.from_gives n → All (NonZero n) kept.now → verdict_with n result ≡ verdict (content_of block.now) (meant_by_with n s kept.now) }
 {
     let full = full_in(block, kept);
     for (i, k) in kept.iter().enumerate() {

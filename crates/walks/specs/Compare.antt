@@ -94,9 +94,9 @@ abbrev pub side_number : Side → ℕ
 side_number Reference = 1
 side_number Device = 2
 
--- the side that a number says: 2 the device's, any other the reference's
+-- the side that a number names: any number but the device's is the reference's
 abbrev pub side_of : ℕ → Side
-side_of n = cond (eqb n 2) Device Reference
+side_of n = cond (eqb n (side_number Device)) Device Reference
 
 -- the totals with what a turn found
 abbrev pub counted : Totals → Option Found → Totals

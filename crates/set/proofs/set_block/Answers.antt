@@ -22,7 +22,7 @@ use Rattle.answer.specs.Judge.{Judged}
 use Rattle.answer.specs.Set.{Verdict, verdict}
 use Rattle.verdict.specs.Kept.{bare, meant_by, judged_in, verdict_as, AllWithin, KeptFit}
 use Rattle.verdict.specs.declared.judge.Kept.{Kept}
-use Rattle.verdict.proofs.faults.FaultLaws.{fault-numbered}
+use Rattle.verdict.proofs.faults.FaultLaws.{fault-numbered, own-numbers, own-nonzero}
 use Rattle.set.proofs.FitLaws.{timers-fit}
 use Rattle.set.proofs.SetLaws.{kept-verdict, judged-kept-fit, accepted-leaves, faulted-leaves}
 use Rattle.set.proofs.set_block.Goals as goal
@@ -79,7 +79,7 @@ returns-in_err-verdict_of c =
     let p = err_from_is_err_and c.from_residual.result c.from_residual.ensures.1 in
     let told : meant_by a.request.now k.new.kept ≡ map bare (judged_in (model_of (content_of b)) a.request.now a.bindings.now) = rw (← c.model.ensures) k.ensures.0 in
     let v : verdict_as (Err e) ≡ verdict (content_of b) (asked b a.request.now a.bindings.now k.new.kept c.requires.0 told) =
-    answered b a.request.now a.bindings.now k.new.kept c.requires.0 told (rw c.in_err-verdict_of.was at (c.verdict_of.ensures a.request.now)) in
+    answered b a.request.now a.bindings.now k.new.kept c.requires.0 told (rw c.in_err-verdict_of.was at (c.verdict_of.ensures number_of a.request.now own-numbers (own-nonzero k.new.kept))) in
     let same = faulted-leaves (content_of b) (asked b a.request.now a.bindings.now k.new.kept c.requires.0 told)
     (λ z. eqb-false (number_of e.fault) 0 (fault-numbered e.fault) (ap (λ (x : Verdict). x.status) v ∙ z)) in
     rw (p.1, p.2) (v, sym (ap image same ∙ (legal-valid b c.requires.0).1))
@@ -90,7 +90,7 @@ returns c =
     let b = a.block.now in
     let k = c.judge_each in
     let told : meant_by a.request.now k.new.kept ≡ map bare (judged_in (model_of (content_of b)) a.request.now a.bindings.now) = rw (← c.model.ensures) k.ensures.0 in
-    let v : verdict_as (Ok tt) ≡ verdict (content_of b) (meant_by a.request.now k.new.kept) = rw c.in_ok-verdict_of.was at (c.verdict_of.ensures a.request.now) in (
+    let v : verdict_as (Ok tt) ≡ verdict (content_of b) (meant_by a.request.now k.new.kept) = rw c.in_ok-verdict_of.was at (c.verdict_of.ensures number_of a.request.now own-numbers (own-nonzero k.new.kept)) in (
       answered b a.request.now a.bindings.now k.new.kept c.requires.0 told v,
       accepted-leaves (content_of b) a.request.now a.bindings.now k.new.kept told (legal-valid b c.requires.0).0 (λ i. omega (arith, c.type_inv.request i))
           c.write_all.new.block (sym (ap (λ (x : Verdict). x.status) v)) c.write_all.ensures,

@@ -2,14 +2,14 @@
 use Prim.Native.Nat.{ℕ, ◌+◌, ◌≤◌, ◌<◌}
 use native.Mathlib.Numerals.{add-one}
 use native.Mathlib.Omega.{arith}
-use mathlib.Core.Path.{◌≡◌, refl}
+use mathlib.Core.Path.{◌≡◌, refl, ap, ◌∙◌}
 use mathlib.Core.Bool.{Bool, true, false, cond, not, ◌||◌, ◌&&◌}
 use mathlib.Core.Option.{Option}
 use mathlib.Core.List.{List, map}
 use lib.Dec.{eqb}
 use lib.ListN.{length, drop, get_or}
 use borrow.Author.Tests.{eq-eqb, ne_eqb, eqb-true}
-use Rattle.std.specs.Prelude.{Result}
+use Rattle.std.specs.Prelude.{Result, Ok, Err, All}
 use Rattle.octets.proofs.BoolLaws.{by_bool}
 use Rattle.names.specs.declared.model.Model.{Model}
 use Rattle.block.specs.Content.{Content}
@@ -25,7 +25,7 @@ use Rattle.block.specs.declared.tables.Table.TheVariants.{Vlan as vlan, Static a
 use Rattle.answer.specs.Tables.{ColumnOf, makes, removes, misplaced, lacking, clash, clashes}
 use Rattle.answer.specs.Judge.{Judged}
 use Rattle.answer.specs.Set.{writes_to, attribute_fault, status_fault, resulting, row_fault, is_full, fault, first_fault}
-use Rattle.verdict.specs.Kept.{status_place, is_column, status_meant, attribute_said, column_at, meant, full_in, full_of}
+use Rattle.verdict.specs.Kept.{status_place, is_column, status_meant, attribute_said, column_at, meant_with, full_in, full_of, KeepsNumbers, NonZero}
 use Rattle.verdict.specs.declared.judge.Kept.{Kept}
 use Rattle.verdict.proofs.PastEnd.{past_end, kept_turn}
 use Rattle.verdict.proofs.columns.ColumnLaws.{column-high}
@@ -74,10 +74,33 @@ fault-numbered ResourceUnavailable = refl
 fault-numbered NotWritable = refl
 fault-numbered InconsistentName = refl
 
+-- a `Fault` keeps its own number
+pub own-numbers : KeepsNumbers (λ f e. e ≡ f) number_of
+own-numbers f e p = ap number_of p
+
+-- and none that is kept has the number 0
+pub own-nonzero : (kept : List (Result Kept Fault)) → All (NonZero number_of) kept
+own-nonzero kept i d h = go (get_or kept i d)
+  where
+    go : (k : Result Kept Fault) → NonZero number_of k
+    go (Ok q) = tt
+    go (Err f) = fault-numbered f
+
+-- what is converted from a `Fault` whose number is x has the number x, which is not 0
+pub converted-number : {E : Type 0} (from_gives : Fault → E → Type 0) (n : E → ℕ) → KeepsNumbers from_gives n → (f : Fault) (e : E) → from_gives f e
+    → (x : ℕ) → number_of f ≡ x → (n e ≡ x) × (eqb (n e) 0 ≡ false)
+converted-number from_gives n k f e g x h = (k f e g ∙ h, ap (λ (y : ℕ). eqb y 0) (k f e g) ∙ fault-numbered f)
+
 -- a turn of the loop that looks for the first fault
-pub first-turn : (c : Content) (m : List Judged) (s : List ℕ) (qs : List (Result Kept Fault)) (i : ℕ) → i < length qs
-    → first_fault c m (map (meant s) (drop i qs)) (i + 1)
-    ≡ cond (eqb (fault c m (meant s (get_or qs i past_end))) 0) (first_fault c m (map (meant s) (drop (i + 1) qs)) (i + 1 + 1))
-    (record { status = fault c m (meant s (get_or qs i past_end)); index = i + 1 })
+pub first-turn : {E : Type 0} (n : E → ℕ) (c : Content) (m : List Judged) (s : List ℕ) (qs : List (Result Kept E)) (i : ℕ) → i < length qs
+    → first_fault c m (map (meant_with n s) (drop i qs)) (i + 1)
+    ≡ cond (eqb (fault c m (meant_with n s (get_or qs i past_end))) 0) (first_fault c m (map (meant_with n s) (drop (i + 1) qs)) (i + 1 + 1))
+    (record { status = fault c m (meant_with n s (get_or qs i past_end)); index = i + 1 })
 unfolding first_fault
-first-turn c m s qs i h = rw (kept_turn qs i h, add-one (i + 1))
+first-turn n c m s qs i h = rw (kept_turn qs i h, add-one (i + 1))
+
+-- where the fault of the binding at i has a number x other than 0, it is the first
+pub first-here : {E : Type 0} (n : E → ℕ) (c : Content) (m : List Judged) (s : List ℕ) (qs : List (Result Kept E)) (i : ℕ) → i < length qs
+    → (x : ℕ) → x ≡ fault c m (meant_with n s (get_or qs i past_end)) → eqb x 0 ≡ false
+    → first_fault c m (map (meant_with n s) (drop i qs)) (i + 1) ≡ record { status = x; index = i + 1 }
+first-here n c m s qs i h x e f = first-turn n c m s qs i h ∙ rw (← e, f)

@@ -15,12 +15,11 @@ use Rattle.octets.proofs.BoolLaws.{both, by-eq, by_bool}
 use Rattle.names.specs.declared.model.Model.{Model}
 use Rattle.block.specs.declared.rows.VlanRow.{VlanRow}
 use Rattle.names.specs.Places.{vlan_name, vlan_egress, vlan_forbidden, vlan_untagged, vlan_row_status}
-use Rattle.answer.specs.declared.faults.Fault.{Fault}
 use Rattle.answer.specs.Writes.{status, attribute, is_status, those, ordered, play_row}
 use Rattle.block.specs.declared.tables.Table.TheVariants.{Vlan as vlan}
 use Rattle.answer.specs.Tables.{ColumnOf, status_step, step, makes, removes, clash}
 use Rattle.answer.specs.Set.{row_write, also, gather, writes_to, resulting}
-use Rattle.verdict.specs.Kept.{is_column, status_meant, meant, is_status_of, sets_of, attribute_sets}
+use Rattle.verdict.specs.Kept.{is_column, status_meant, meant, meant_with, is_status_of, sets_of, attribute_sets}
 use Rattle.verdict.specs.declared.judge.Kept.{Kept}
 use Rattle.verdict.specs.declared.faults.Sets.{Sets}
 use Rattle.verdict.proofs.PastEnd.{past_end, kept_turn}
@@ -123,31 +122,31 @@ sets-none none e = refl
 sets-none (some r) e = absurd (true≢false (sym (ap is_there e)))
 
 -- what a loop over kept bindings has made of the row k: with the kept bindings left, it comes to the row at the end
-pub record Reached (m : Model) (p : ColumnOf vlan → Bool) (s : List ℕ) (k : ℕ) (qs : List (Result Kept Fault)) (x : Maybe Sets) (end : Option VlanRow) : Type 0 where
+pub record Reached {E : Type 0} (n : E → ℕ) (m : Model) (p : ColumnOf vlan → Bool) (s : List ℕ) (k : ℕ) (qs : List (Result Kept E)) (x : Maybe Sets) (end : Option VlanRow) : Type 0 where
   pub row : Option VlanRow
   pub sets : x ≡ sets_of row
-  pub rest : play_row (step m vlan) k (those p (writes_to vlan (map (meant s) qs))) row ≡ end
+  pub rest : play_row (step m vlan) k (those p (writes_to vlan (map (meant_with n s) qs))) row ≡ end
 
-module _ (m : Model) (p : ColumnOf vlan → Bool) (s : List ℕ) (k : ℕ) where
-  pub reached-none : (qs : List (Result Kept Fault)) (x : Maybe Sets) (o : Option VlanRow) → x ≡ sets_of o
-      → Reached m p s k qs x (play_row (step m vlan) k (those p (writes_to vlan (map (meant s) qs))) o)
+module _ {E : Type 0} (n : E → ℕ) (m : Model) (p : ColumnOf vlan → Bool) (s : List ℕ) (k : ℕ) where
+  pub reached-none : (qs : List (Result Kept E)) (x : Maybe Sets) (o : Option VlanRow) → x ≡ sets_of o
+      → Reached n m p s k qs x (play_row (step m vlan) k (those p (writes_to vlan (map (meant_with n s) qs))) o)
   reached-none qs x o e = record { row = o; sets = e; rest = refl }
 
-  pub reached-more : (qs : List (Result Kept Fault)) (i : ℕ) → i < length qs → (x y : Maybe Sets) (end : Option VlanRow)
-      → ((o : Option VlanRow) → x ≡ sets_of o → y ≡ sets_of (row_after m p k (row_write vlan (meant s (get_or qs i past_end))) o))
-      → Reached m p s k (drop i qs) x end → Reached m p s k (drop (i + 1) qs) y end
+  pub reached-more : (qs : List (Result Kept E)) (i : ℕ) → i < length qs → (x y : Maybe Sets) (end : Option VlanRow)
+      → ((o : Option VlanRow) → x ≡ sets_of o → y ≡ sets_of (row_after m p k (row_write vlan (meant_with n s (get_or qs i past_end))) o))
+      → Reached n m p s k (drop i qs) x end → Reached n m p s k (drop (i + 1) qs) y end
   unfolding gather
   reached-more qs i h x y end f r =
-      let q : Result Kept Fault = get_or qs i past_end in
-      let rest : List (Result Kept Fault) = drop (i + 1) qs in
-      let all : play_row (step m vlan) k (those p (writes_to vlan (map (meant s) (q ∷ rest)))) r.row ≡ end = rw (kept_turn qs i h) at r.rest in
+      let q : Result Kept E = get_or qs i past_end in
+      let rest : List (Result Kept E) = drop (i + 1) qs in
+      let all : play_row (step m vlan) k (those p (writes_to vlan (map (meant_with n s) (q ∷ rest)))) r.row ≡ end = rw (kept_turn qs i h) at r.rest in
       record {
-        row = row_after m p k (row_write vlan (meant s q)) r.row;
+        row = row_after m p k (row_write vlan (meant_with n s q)) r.row;
         sets = f r.row r.sets;
-        rest = sym (row-turn m p k (writes_to vlan (map (meant s) rest)) (row_write vlan (meant s q)) r.row) ∙ all;
+        rest = sym (row-turn m p k (writes_to vlan (map (meant_with n s) rest)) (row_write vlan (meant_with n s q)) r.row) ∙ all;
       }
 
-  pub reached-all : (qs : List (Result Kept Fault)) (i : ℕ) → length qs ≤ i → (x : Maybe Sets) (end : Option VlanRow) → Reached m p s k (drop i qs) x end → x ≡ sets_of end
+  pub reached-all : (qs : List (Result Kept E)) (i : ℕ) → length qs ≤ i → (x : Maybe Sets) (end : Option VlanRow) → Reached n m p s k (drop i qs) x end → x ≡ sets_of end
   unfolding gather those play_row
   reached-all qs i h x end r =
       let none_left : r.row ≡ end = rw (drop_of_length-le qs {i = i} h) at r.rest in

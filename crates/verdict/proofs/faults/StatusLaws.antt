@@ -17,7 +17,6 @@ use Rattle.block.specs.Lookup.{lookup, keys_of}
 use Rattle.block.specs.Valid.{legal}
 use Rattle.block.proofs.StandingLaws.{stands, few-rows}
 use Rattle.block.proofs.RoundLaws.{legal-sized}
-use Rattle.answer.specs.declared.faults.Fault.{Fault}
 use Rattle.answer.specs.Get.{elem}
 use Rattle.answer.specs.Writes.{status, is_status, on_status, present, those, has, count, made_by, removed_by, full}
 use Rattle.block.specs.Tables.{Row, rows_of, most}
@@ -25,7 +24,7 @@ use Rattle.block.specs.declared.tables.Table.{Table}
 use Rattle.block.proofs.ReadLaws.{many-in}
 use Rattle.answer.specs.Tables.{ColumnOf, makes, removes}
 use Rattle.answer.specs.Set.{row_write, also, gather, writes_to, is_full}
-use Rattle.verdict.specs.Kept.{status_place, is_column, status_meant, column_at, meant, is_status_of, does, if_clean, is_done, made, removed}
+use Rattle.verdict.specs.Kept.{status_place, is_column, status_meant, column_at, meant, meant_with, is_status_of, does, if_clean, is_done, made, removed}
 use Rattle.verdict.specs.declared.faults.Act.{Act}
 use Rattle.verdict.specs.declared.faults.Act.TheVariants.{Makes, Removes, Fills}
 use Rattle.verdict.specs.declared.judge.Kept.{Kept}
@@ -75,13 +74,13 @@ done-by t q xs a =
     P a = does a t q ≡ (is_column t q.place && wanted a t (column_at t q.place q.value xs))
 
 -- tests that agree on each clean binding agree
-if-same : (p r : Kept → Bool) → ((q : Kept) → p q ≡ r q) → (q : Result Kept Fault) → if_clean p q ≡ if_clean r q
+if-same : {E : Type 0} (p r : Kept → Bool) → ((q : Kept) → p q ≡ r q) → (q : Result Kept E) → if_clean p q ≡ if_clean r q
 if-same p r h (Ok q) = h q
 if-same p r h (Err f) = refl
 
-module _ (t : Table) (s : List ℕ) where
+module _ {E : Type 0} (n : E → ℕ) (t : Table) (s : List ℕ) where
   -- so some binding does so where some write is such a column
-  done-rows : (a : Act) (k : ℕ) (qs : List (Result Kept Fault)) → has (wanted a t) k (writes_to t (map (meant s) qs)) ≡ is_done a t k qs
+  done-rows : (a : Act) (k : ℕ) (qs : List (Result Kept E)) → has (wanted a t) k (writes_to t (map (meant_with n s) qs)) ≡ is_done a t k qs
   unfolding gather has is_done
   done-rows a k [] = refl
   done-rows a k (Err f ∷ qs) = done-rows a k qs
@@ -91,32 +90,32 @@ module _ (t : Table) (s : List ℕ) where
       rw (write-of t s q, done-by t q xs a)
       (by_bool w (λ e. rw (e, done-rows a k qs)) (λ e. rw (e, done-rows a k qs) (by_bool (eqb k q.key) (λ g. rw g) (λ g. rw g))))
 
-  pub makes-row : (k : ℕ) (qs : List (Result Kept Fault)) → has (on_status (makes t)) k (writes_to t (map (meant s) qs)) ≡ is_done Makes t k qs
+  pub makes-row : (k : ℕ) (qs : List (Result Kept E)) → has (on_status (makes t)) k (writes_to t (map (meant_with n s) qs)) ≡ is_done Makes t k qs
   makes-row = done-rows Makes
 
-  pub removes-row : (k : ℕ) (qs : List (Result Kept Fault)) → has (on_status (removes t)) k (writes_to t (map (meant s) qs)) ≡ is_done Removes t k qs
+  pub removes-row : (k : ℕ) (qs : List (Result Kept E)) → has (on_status (removes t)) k (writes_to t (map (meant_with n s) qs)) ≡ is_done Removes t k qs
   removes-row = done-rows Removes
 
-  pub fills-row : (k : ℕ) (qs : List (Result Kept Fault)) → has (λ c. not (is_status c)) k (writes_to t (map (meant s) qs)) ≡ is_done Fills t k qs
+  pub fills-row : (k : ℕ) (qs : List (Result Kept E)) → has (λ c. not (is_status c)) k (writes_to t (map (meant_with n s) qs)) ≡ is_done Fills t k qs
   fills-row = done-rows Fills
 
   -- the writes of the status column
-  abbrev statuses : List (Result Kept Fault) → List (ℕ × ColumnOf t)
-  statuses qs = those is_status (writes_to t (map (meant s) qs))
+  abbrev statuses : List (Result Kept E) → List (ℕ × ColumnOf t)
+  statuses qs = those is_status (writes_to t (map (meant_with n s) qs))
 
-  count_kept : (g : ℕ → ColumnOf t → Option (Row t) → Bool) (es : List (ℕ × Row t)) (f : List (Result Kept Fault) → ℕ) → f [] ≡ 0
-      → ((q : Result Kept Fault) (qs : List (Result Kept Fault)) → f (q ∷ qs)
+  count_kept : (g : ℕ → ColumnOf t → Option (Row t) → Bool) (es : List (ℕ × Row t)) (f : List (Result Kept E) → ℕ) → f [] ≡ 0
+      → ((q : Result Kept E) (qs : List (Result Kept E)) → f (q ∷ qs)
       ≡ cond (if_clean (λ q. is_status_of t q && g q.key (status (status_meant t q.value)) (lookup q.key es)) q) 1 0 + f qs)
-      → (qs : List (Result Kept Fault)) → count g es (statuses qs) ≡ f qs
+      → (qs : List (Result Kept E)) → count g es (statuses qs) ≡ f qs
   unfolding gather those count
   count_kept g es f z h [] = sym z
   count_kept g es f z h (Err e ∷ qs) = rw (h (Err e) qs, count_kept g es f z h qs) (omega arith)
   count_kept g es f z h (Ok q ∷ qs) =
-      rw (status-turn t s q (writes_to t (map (meant s) qs)), h (Ok q) qs)
+      rw (status-turn t s q (writes_to t (map (meant_with n s) qs)), h (Ok q) qs)
       (by_bool (is_status_of t q) (λ e. rw (e, count_kept g es f z h qs)) (λ e. rw (e, count_kept g es f z h qs) (omega arith)))
 
   -- room goes by what the kept bindings make and remove
-  pub full-kept : (c : Content) (qs : List (Result Kept Fault)) → is_full t c (map (meant s) qs)
+  pub full-kept : (c : Content) (qs : List (Result Kept E)) → is_full t c (map (meant_with n s) qs)
       ≡ ltb (most t + removed t (λ k. elem k (keys_of (rows_of t c))) qs)
       (length (rows_of t c) + made t (λ k. elem k (keys_of (rows_of t c))) qs)
   unfolding full made removed
@@ -135,30 +134,30 @@ pub rows_few : (b : List ℕ) → legal b ≡ true → (t : Table) → (length (
 rows_few b e t = (omega (arith, many-in b t, few-rows b t (legal-sized b e), (stands t).4), (stands t).4)
 
 -- a turn of the loop that looks for a binding
-pub done-turn : (a : Act) (t : Table) (k : ℕ) (qs : List (Result Kept Fault)) (i : ℕ) → i < length qs
+pub done-turn : {E : Type 0} (a : Act) (t : Table) (k : ℕ) (qs : List (Result Kept E)) (i : ℕ) → i < length qs
     → is_done a t k (drop i qs) ≡ (if_clean (λ q. eqb k q.key && does a t q) (get_or qs i past_end) || is_done a t k (drop (i + 1) qs))
 unfolding is_done
 done-turn a t k qs i h = rw (kept_turn qs i h)
 
-pub done-none : (a : Act) (t : Table) (k : ℕ) (qs : List (Result Kept Fault)) (i : ℕ) → length qs ≤ i → is_done a t k (drop i qs) ≡ false
+pub done-none : {E : Type 0} (a : Act) (t : Table) (k : ℕ) (qs : List (Result Kept E)) (i : ℕ) → length qs ≤ i → is_done a t k (drop i qs) ≡ false
 unfolding is_done
 done-none a t k qs i h = rw (drop_of_length-le qs {i = i} h)
 
 -- the rows that one kept binding makes, and those that it removes
-abbrev pub making : (t : Table) → (there : ℕ → Bool) → Result Kept Fault → Bool
+abbrev pub making : {E : Type 0} → (t : Table) → (there : ℕ → Bool) → Result Kept E → Bool
 making t there q = if_clean (λ q. is_status_of t q && (makes t (status_meant t q.value) && not (there q.key))) q
 
-abbrev pub removing : (t : Table) → (there : ℕ → Bool) → Result Kept Fault → Bool
+abbrev pub removing : {E : Type 0} → (t : Table) → (there : ℕ → Bool) → Result Kept E → Bool
 removing t there q = if_clean (λ q. is_status_of t q && (removes t (status_meant t q.value) && there q.key)) q
 
 -- what a loop has counted of made and removed rows comes to the whole with the kept bindings left
-pub record Counted (t : Table) (there : ℕ → Bool) (live limit : ℕ) (qs : List (Result Kept Fault)) (i rows room : ℕ) : Type 0 where
+pub record Counted {E : Type 0} (t : Table) (there : ℕ → Bool) (live limit : ℕ) (qs : List (Result Kept E)) (i rows room : ℕ) : Type 0 where
   pub rows_fit : rows ≤ live + i
   pub room_fits : room ≤ limit + i
   pub more_rows : live + made t there qs ≡ rows + made t there (drop i qs)
   pub more_room : limit + removed t there qs ≡ room + removed t there (drop i qs)
 
-module _ (t : Table) (there : ℕ → Bool) (live limit : ℕ) (qs : List (Result Kept Fault)) where
+module _ {E : Type 0} (t : Table) (there : ℕ → Bool) (live limit : ℕ) (qs : List (Result Kept E)) where
   pub counted_none : Counted t there live limit qs 0 live limit
   counted_none = record { rows_fit = omega arith; room_fits = omega arith; more_rows = refl; more_room = refl }
 

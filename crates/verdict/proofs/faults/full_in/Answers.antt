@@ -2,4 +2,4 @@
 use Rattle.verdict.proofs.faults.full_in.Goals as goal
 
 pub returns : goal.returns
-returns c s = rw (c.is_full-3.ensures s, c.is_full-2.ensures s, c.is_full.ensures s)
+returns g c n s = rw (c.is_full-3.ensures n s, c.is_full-2.ensures n s, c.is_full.ensures n s)

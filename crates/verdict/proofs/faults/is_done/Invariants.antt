@@ -5,4 +5,4 @@ use Rattle.verdict.specs.Kept.{is_done}
 use Rattle.verdict.proofs.faults.is_done.Given as goal
 
 abbrev pub invariant-loop-k : goal.invariant-loop-k
-invariant-loop-k l = is_done l.act l.t l.key l.kept ≡ is_done l.act l.t l.key (drop l.k-index l.kept)
+invariant-loop-k g l = is_done l.act l.t l.key l.kept ≡ is_done l.act l.t l.key (drop l.k-index l.kept)

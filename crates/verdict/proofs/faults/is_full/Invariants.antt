@@ -8,5 +8,5 @@ use Rattle.verdict.proofs.faults.StatusLaws.{Counted}
 use Rattle.verdict.proofs.faults.is_full.Given as goal
 
 abbrev pub invariant-loop-k : goal.invariant-loop-k
-invariant-loop-k l =
+invariant-loop-k g l =
     (l.initial.rows ≤ 256) × (l.initial.room ≤ 256) × Counted l.t (λ k. elem k (keys_of (rows_of l.t (content_of l.block)))) l.initial.rows l.initial.room l.kept l.k-index l.rows l.room

@@ -5,6 +5,6 @@ use Rattle.verdict.proofs.faults.timers_agree.Goals as goal
 
 pub returns : goal.returns
 unfolding timers_ok
-returns c =
-    λ s. c.belong_together.ensures
-    ∙ (λ i. together (c.resulting_timer-age.ensures s i) (c.resulting_timer-hello.ensures s i) (c.resulting_timer-delay.ensures s i))
+returns g c =
+    λ n s. c.belong_together.ensures
+    ∙ (λ i. together (c.resulting_timer-age.ensures n s i) (c.resulting_timer-hello.ensures n s i) (c.resulting_timer-delay.ensures n s i))
