@@ -90,12 +90,13 @@ said_ports m xs = cond (leb (length xs) 8) (cond (only_to 64 m.ports (set_of xs)
 abbrev pub kept_of : (i k v : ℕ) → Binding → Kept
 kept_of i k v b = record { place = i; len = b.len; at = b.content; key = k; value = v }
 
--- what is kept of a binding of a request s as a judged binding, where n numbers the faults; the row that it names is left out, since no fault and no change reads it
+-- what is kept of a binding of a request s, as a judged binding; n gives the number of a fault
+-- the row that it names is left out, since no fault and no change reads it
 abbrev pub meant_with : {E : Type 0} → (E → ℕ) → List ℕ → Result Kept E → Judged
 meant_with n s (Ok q) = clean (0, 0) (written_as q.place q.key q.value (part s q.at q.len))
 meant_with n s (Err e) = bad (n e) none
 
--- where they are of the type `Fault`
+-- the same for faults of the type `Fault`
 abbrev pub meant : List ℕ → Result Kept Fault → Judged
 meant s k = meant_with number_of s k
 
@@ -103,19 +104,19 @@ abbrev pub bare : Judged → Judged
 bare (bad f t) = bad f none
 bare (clean t w) = clean (0, 0) w
 
--- what is kept of the bindings of a request s as judged bindings, where n numbers the faults
+-- the same for all bindings that are kept
 abbrev pub meant_by_with : {E : Type 0} → (E → ℕ) → List ℕ → List (Result Kept E) → List Judged
 meant_by_with n s kept = map (meant_with n s) kept
 
--- where they are of the type `Fault`
+-- the same for faults of the type `Fault`
 abbrev pub meant_by : List ℕ → List (Result Kept Fault) → List Judged
 meant_by s kept = meant_by_with number_of s kept
 
--- n gives what is converted from a `Fault` the number of that `Fault`
+-- n gives a value that is converted from a `Fault` the number of that `Fault`
 abbrev pub KeepsNumbers : {E : Type 0} → (from_gives : Fault → E → Type 0) → (E → ℕ) → Type 0
 KeepsNumbers {E = E} from_gives n = (f : Fault) (e : E) → from_gives f e → n e ≡ number_of f
 
--- a fault, if there is one, has another number than 0, which says that there is none
+-- a kept binding is clean, or its fault has a number other than 0 (0 means no fault)
 abbrev pub NonZero : {A E : Type 0} → (E → ℕ) → Result A E → Type 0
 NonZero n r = IfErr r (λ e. eqb (n e) 0 ≡ false)
 
@@ -202,12 +203,12 @@ sets_of (some r) = Some (record { egress = r.egress; forbidden = r.forbidden })
 abbrev pub attribute_sets : Kept → Sets → Sets
 attribute_sets q x = record { egress = cond (eqb q.place vlan_egress) q.value x.egress; forbidden = cond (eqb q.place vlan_forbidden) q.value x.forbidden }
 
--- status and index of the lowest binding at fault, if one is, where n numbers the faults
+-- status and index of the lowest binding at fault, or 0 and 0; n gives the number of a fault
 abbrev pub verdict_with : {E : Type 0} → (E → ℕ) → Result Unit (Faulted E) → Verdict
 verdict_with n (Ok u) = record { status = 0; index = 0 }
 verdict_with n (Err e) = record { status = n e.fault; index = e.index }
 
--- where they are of the type `Fault`
+-- the same for faults of the type `Fault`
 abbrev pub verdict_as : Result Unit (Faulted Fault) → Verdict
 verdict_as r = verdict_with number_of r
 

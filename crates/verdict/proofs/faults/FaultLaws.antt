@@ -78,7 +78,7 @@ fault-numbered InconsistentName = refl
 pub own-numbers : KeepsNumbers (λ f e. e ≡ f) number_of
 own-numbers f e p = ap number_of p
 
--- and none that is kept has the number 0
+-- no kept `Fault` has the number 0
 pub own-nonzero : (kept : List (Result Kept Fault)) → All (NonZero number_of) kept
 own-nonzero kept i d h = go (get_or kept i d)
   where
